@@ -1,0 +1,6 @@
+pub mod Asked
+pub mod Reading
+pub mod Texts
+pub mod Top
+pub mod Words
+pub mod Writing

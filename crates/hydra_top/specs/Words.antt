@@ -1,0 +1,32 @@
+-- The words of the program.
+use Rattle.std.specs.Prelude.{ℕ, nat_le, Bool, ◌&&◌, List, [], ◌∷◌, Option, None, Some, Result, Ok, Err, codes, if◌then◌else◌}
+use Rattle.std.specs.Str.{bytes_eq}
+use Rattle.hy_text.specs.declared.number.NumFault.{NumFault}
+use Rattle.hy_text.specs.Number.{number_of}
+
+-- what is asked: a search of the runs of a procedure of a file, within a bound
+pub record Task : Type 0 where
+  pub file : List ℕ
+  pub entry : List ℕ
+  pub bound : ℕ
+
+abbrev pub is_bound : ℕ → Bool
+is_bound n = nat_le 1 n && nat_le n 1000
+
+-- the bound that is read
+abbrev pub bound_in : Result ℕ NumFault → Option ℕ
+bound_in (Ok n) = if is_bound n then Some n else None
+bound_in (Err fault) = None
+
+abbrev pub bounded : List ℕ → List ℕ → Option ℕ → Option Task
+bounded file entry None = None
+bounded file entry (Some bound) = Some (record { file = file; entry = entry; bound = bound })
+
+-- the words are `solo`, a file, an entry and the digits of a bound; leading zeros are read
+abbrev pub task_of : List (List ℕ) → Option Task
+task_of [] = None
+task_of (job ∷ []) = None
+task_of (job ∷ file ∷ []) = None
+task_of (job ∷ file ∷ entry ∷ []) = None
+task_of (job ∷ file ∷ entry ∷ bound ∷ []) = if bytes_eq job (codes "solo") then bounded file entry (bound_in (number_of bound)) else None
+task_of (job ∷ file ∷ entry ∷ bound ∷ more ∷ rest) = None

@@ -1,0 +1,17 @@
+//! The top call: the words, a shelf of files and a sink in, a report out. It does all that the
+//! program does, so its contract is what the program promises.
+#![tactic(auto)]
+
+mod judging;
+pub mod outcome;
+pub mod reading;
+pub mod text;
+pub mod top;
+pub mod words;
+pub mod writing;
+
+pub use outcome::{NotBuilt, Outcome, Refusal, Report};
+pub use top::run_solo;
+
+#[cfg(test)]
+mod tests;

@@ -1,0 +1,84 @@
+//! What the program reports.
+
+ghost use Rattle.std.specs.Prelude.{◌≡◌};
+ghost use Rattle.hydra_top.specs.Texts.{status_number};
+
+use hy_text::Text;
+use sqlite_items::Items;
+use src_run::machine::Choice;
+
+/// What of the input is not of the form that is built.
+#[derive(Clone, Copy, Debug, PartialEq, Eq)]
+pub enum NotBuilt {
+    /// The words are not `solo`, a file, an entry, and a bound from 1 to 1000 in digits.
+    Words,
+    /// The file is not one block of asserts and assumes over bools, or has more than 65,536 bytes.
+    Source,
+}
+
+/// Why the input is refused.
+#[derive(Drop)]
+pub enum Refusal {
+    /// It is not of the form.
+    NotBuilt { part: NotBuilt },
+    /// No procedure of the file has that name.
+    NoEntry { name: Text },
+}
+
+/// What came of the words.
+#[derive(Drop)]
+pub enum Outcome {
+    /// No run of the entry within the bound fails.
+    Safe,
+    /// The run of the entry on these choices fails, in the procedure of that number at the assert
+    /// of that number, which counts from 1.
+    Bug {
+        choices: Items<Choice>,
+        proc: u32,
+        assert: u32,
+    },
+    /// The input is refused.
+    Refused(Refusal),
+    /// The file could not be opened or read.
+    ReadFault,
+    /// The text could not be written.
+    WriteFault,
+    /// A request for memory was refused.
+    NoMemory,
+}
+
+/// The outcome, and the status with which the process ends: 0 for Safe, 10 for Bug, 3 for a
+/// refusal, 4 and 5 for faults of reading and writing, 6 for want of memory.
+#[derive(Drop)]
+pub struct Report {
+    pub status: u8,
+    pub outcome: Outcome,
+}
+
+impl Report {
+    /// The report of an outcome.
+    pub fn of(outcome: Outcome) -> Report
+        ensures outcome { result.outcome ≡ outcome }
+        ensures status { result.status ≡ status_number outcome }
+    {
+        let status = status(&outcome);
+        Report { status, outcome }
+    }
+}
+
+fn status(outcome: &Outcome) -> u8
+    ensures { result ≡ status_number outcome.now }
+{
+    match outcome {
+        Outcome::Safe => 0,
+        Outcome::Bug {
+            choices: _,
+            proc: _,
+            assert: _,
+        } => 10,
+        Outcome::Refused(_) => 3,
+        Outcome::ReadFault => 4,
+        Outcome::WriteFault => 5,
+        Outcome::NoMemory => 6,
+    }
+}

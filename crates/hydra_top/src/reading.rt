@@ -1,0 +1,66 @@
+//! Reading a file to its end, or to where it is too long.
+
+ghost use Rattle.std.specs.Prelude.{◌≡◌, ◌≤◌, ◌<◌, IfOk, Some, OnOk, OnErr, ◌⊎◌, ◌++◌, ◌∷◌, []};
+ghost use Rattle.hy_outside.specs.Outside.{Rose};
+ghost use Rattle.hydra_top.specs.Reading.{ReadCause, ReadsFile, ReadsLeft};
+
+use hy_outside::{Shelf, ShelfFault};
+use hy_text::{Bytes, Text};
+use std::alloc::Global;
+
+/// The greatest number of bytes of a file of the form.
+pub const LIMIT: usize = 65536;
+
+/// What was read of a file.
+#[derive(Drop)]
+pub enum Source {
+    /// All its bytes, which are at most `LIMIT`.
+    Whole(Bytes),
+    /// It has more than `LIMIT` bytes.
+    TooLong,
+}
+
+/// Why a file was not read.
+#[derive(Clone, Copy, Debug, PartialEq, Eq)]
+pub enum ReadEnd {
+    /// It could not be opened, or a read failed.
+    Failed,
+    /// A request for memory was refused.
+    NoMemory,
+}
+
+/// Opens the file of that name and reads it to its end, or until more than `LIMIT` bytes were
+/// read. It takes the memory of what it has read.
+pub fn read_file<S: Shelf>(alloc: Global, shelf: &mut S, name: &Text) -> Result<Source, ReadEnd>
+    ensures file { IfOk result (λ source. ReadsFile (S.files shelf.old) name.now source) }
+    ensures cause { ReadCause (S.faults shelf.old) (S.faults shelf.new) result }
+    ensures opened { (S.opened shelf.new ≡ S.opened shelf.old) ⊎ (S.opened shelf.new ≡ S.opened shelf.old ++ name.now ∷ []) }
+{
+    match shelf.open(alloc, name) {
+        Ok(()) => read_rest(alloc, shelf),
+        Err(ShelfFault::Failed) => Err(ReadEnd::Failed),
+        Err(ShelfFault::NoMemory) => Err(ReadEnd::NoMemory),
+    }
+}
+
+// Reads what is left of the open file.
+fn read_rest<S: Shelf>(alloc: Global, shelf: &mut S) -> Result<Source, ReadEnd>
+    ensures left { IfOk result (λ source. ReadsLeft (S.left shelf.old) source) }
+    ensures cause { ReadCause (S.faults shelf.old) (S.faults shelf.new) result }
+    ensures opened { S.opened shelf.new ≡ S.opened shelf.old }
+{
+    let mut bytes = Bytes::new(alloc);
+    while bytes.len() <= LIMIT {
+        let mut piece = [0u8; 512];
+        let Ok(count) = shelf.read(&mut piece) else {
+            return Err(ReadEnd::Failed);
+        };
+        if count == 0 {
+            return Ok(Source::Whole(bytes));
+        }
+        if bytes.append(&piece[..count]).is_err() {
+            return Err(ReadEnd::NoMemory);
+        }
+    }
+    Ok(Source::TooLong)
+}

@@ -1,0 +1,122 @@
+use super::*;
+use hy_outside::{MemShelf, MemSink, Turn};
+use hy_text::{Bytes, Text};
+use std::alloc::{AllocError, Global};
+use std::test::Fail;
+
+const ASSERTED: &[u8] = b"var b: bool;\nprocedure main() { assert b; }\n";
+
+const ASSUMED: &[u8] = b"var b: bool;\nprocedure main() { assume b; assert b; }\n";
+
+const FALSE: &[u8] = b"procedure main() { assert false; assume false; }\n";
+
+// Runs the words on a shelf with the one file `f`.
+fn run(
+    alloc: Global,
+    words: &[&str],
+    bytes: &[u8],
+    shelf_turns: &[Turn],
+    room: usize,
+    sink_turns: &[Turn],
+) -> Result<(u8, MemSink), AllocError> {
+    let mut texts = Vec::new(alloc);
+    for word in words {
+        texts.push(Text::from_str(alloc, word)?)?;
+    }
+    let name = Text::from_str(alloc, "f")?;
+    let content = Bytes::from_slice(alloc, bytes)?;
+    let files = vec![in alloc; (name, content)]?;
+    let mut shelf = MemShelf::new(alloc, files, Vec::from_slice(alloc, shelf_turns)?);
+    let mut out = MemSink::new(alloc, room, Vec::from_slice(alloc, sink_turns)?)?;
+    let report = run_solo(alloc, texts.as_slice(), &mut shelf, &mut out);
+    Ok((report.status, out))
+}
+
+#[test]
+fn outcomes_are_printed(rt: HostRuntime) -> Result<(), Fail> {
+    let missing: &[u8] = b"refused: no entry main\n";
+    let cases: [(&str, &[u8], u8, &[u8]); 6] = [
+        ("main", ASSERTED, 10, b"Bug\nv b false\nfails main 1\n"),
+        ("main", ASSUMED, 0, b"Safe\n"),
+        ("main", FALSE, 10, b"Bug\nfails main 1\n"),
+        ("main", b"", 3, missing),
+        ("p q", ASSUMED, 3, b"refused: no entry p q\n"),
+        ("main", b"var x: int;", 3, b"refused: not built\n"),
+    ];
+    let reads = [Turn::All, Turn::AtMost(1), Turn::AtMost(2)];
+    let writes = [Turn::AtMost(2), Turn::AtMost(1)];
+    for (entry, bytes, status, printed) in cases {
+        let words = ["solo", "f", entry, "1"];
+        let (ended, out) = run(rt.alloc(), &words, bytes, &reads, 100, &writes)?;
+        assert_eq!(rt; ended, status);
+        assert_eq!(rt; out.held(), printed);
+    }
+    Ok(())
+}
+
+#[test]
+fn words_are_read(rt: HostRuntime) -> Result<(), Fail> {
+    let refused: &[u8] = b"refused: not built\n";
+    let safe: &[u8] = b"Safe\n";
+    let cases: [(&[&str], u8, &[u8]); 12] = [
+        (&["solo", "f", "main", "1000"], 0, safe),
+        (
+            &["solo", "f", "main", "00000000000000000000000001"],
+            0,
+            safe,
+        ),
+        (&["solo", "f", "main", "0"], 3, refused),
+        (&["solo", "f", "main", "1001"], 3, refused),
+        (&["solo", "f", "main", "18446744073709551617"], 3, refused),
+        (&["solo", "f", "main", "+1"], 3, refused),
+        (&["solo", "f", "main", ""], 3, refused),
+        (&["check", "f", "main", "1"], 3, refused),
+        (&["solo", "f", "main"], 3, refused),
+        (&["solo", "f", "main", "1", "1"], 3, refused),
+        (&[], 3, refused),
+        (&["solo", "g", "main", "1"], 4, b"fault: read\n"),
+    ];
+    for (words, status, printed) in cases {
+        let (ended, out) = run(rt.alloc(), words, ASSUMED, &[], 100, &[])?;
+        assert_eq!(rt; ended, status);
+        assert_eq!(rt; out.held(), printed);
+    }
+    Ok(())
+}
+
+#[test]
+fn faults_are_told(rt: HostRuntime) -> Result<(), Fail> {
+    let words = ["solo", "f", "main", "1"];
+    let cut = [Turn::All, Turn::AtMost(4), Turn::Fail];
+    let (ended, out) = run(rt.alloc(), &words, ASSUMED, &cut, 100, &[])?;
+    assert_eq!(rt; ended, 4);
+    assert_eq!(rt; out.held(), b"fault: read\n".as_slice());
+    let cases: [(usize, &[Turn], &[u8]); 3] = [
+        (100, &[Turn::AtMost(3), Turn::Fail], b"Saf"),
+        (100, &[Turn::AtMost(0)], b""),
+        (3, &[], b"Saf"),
+    ];
+    for (room, turns, held) in cases {
+        let (ended, out) = run(rt.alloc(), &words, ASSUMED, &[], room, turns)?;
+        assert_eq!(rt; ended, 5);
+        assert_eq!(rt; out.held(), held);
+    }
+    Ok(())
+}
+
+#[test]
+fn long_files_are_refused(rt: HostRuntime) -> Result<(), Fail> {
+    let words = ["solo", "f", "main", "1"];
+    let mut bytes = Bytes::from_slice(rt.alloc(), ASSUMED)?;
+    for _ in ASSUMED.len()..65536 {
+        bytes.push(b' ')?;
+    }
+    let (ended, out) = run(rt.alloc(), &words, bytes.as_slice(), &[], 100, &[])?;
+    assert_eq!(rt; ended, 0);
+    assert_eq!(rt; out.held(), b"Safe\n".as_slice());
+    bytes.push(b' ')?;
+    let (ended, out) = run(rt.alloc(), &words, bytes.as_slice(), &[], 100, &[])?;
+    assert_eq!(rt; ended, 3);
+    assert_eq!(rt; out.held(), b"refused: not built\n".as_slice());
+    Ok(())
+}

@@ -1,0 +1,109 @@
+//! The top call.
+
+ghost use Rattle.std.specs.Prelude.{◌≡◌, ◌≢◌, ◌<◌, ◌≤◌, IfOk, Some, codes, ◌++◌, ◌∷◌, []};
+ghost use Rattle.std.specs.Io.KnownBytes.{Appends};
+ghost use Rattle.hy_outside.specs.Outside.{Rose};
+ghost use Rattle.hydra_top.specs.Asked.{asked};
+ghost use Rattle.hydra_top.specs.Texts.{line, status_number};
+ghost use Rattle.hydra_top.specs.Words.{task_of};
+ghost use Rattle.hydra_top.specs.Top.{IsAnswer, MayMask, OpensOnly, Prints, PrintsFront, RightFor};
+ghost use Rattle.hydra_top.specs.Writing.{AppendsFront};
+
+use crate::judging::{Answer, judged};
+use crate::outcome::{NotBuilt, Outcome, Refusal, Report};
+use crate::reading::{ReadEnd, read_file};
+use crate::words::{Task, read_words};
+use crate::writing::write_all;
+use hy_outside::{Shelf, Sink};
+use hy_text::{Bytes, Text};
+use std::alloc::{AllocError, Global};
+
+/// Does what the words ask: reads the file, searches the runs of its entry, and prints the outcome.
+/// It always returns.
+///
+/// All text is made before the first byte is written, and the loop that writes takes no memory.
+pub fn run_solo<S: Shelf, K: Sink>(
+    alloc: Global,
+    words: &[Text],
+    shelf: &mut S,
+    out: &mut K,
+) -> Report
+    // The outcome is the one for the words and the file, exactly.
+    ensures right { RightFor (S.files shelf.old) words.now result.outcome }
+
+    // Faults come only where they were counted, and where a read failed nothing else is told.
+    ensures read_fault { result.outcome ≡ Outcome.ReadFault → Rose (S.faults shelf.old) (S.faults shelf.new) }
+    ensures masked { S.faults shelf.old < S.faults shelf.new → MayMask result.outcome }
+    ensures write_fault { result.outcome ≡ Outcome.WriteFault → Rose (K.faults out.old) (K.faults out.new) }
+    ensures opened { OpensOnly (task_of words.now) (S.opened shelf.old) (S.opened shelf.new) }
+
+    // The sink has grown by exactly the text, or, after a failed write, by a front of one that may be told.
+    ensures text { result.outcome ≢ Outcome.WriteFault → Prints (S.faults shelf.old) (S.faults shelf.new) (S.files shelf.old) words.now (K.held out.old) (K.held out.new) result.outcome }
+    ensures begun { result.outcome ≡ Outcome.WriteFault → PrintsFront (S.faults shelf.old) (S.faults shelf.new) (S.files shelf.old) words.now (K.held out.old) (K.held out.new) }
+    ensures status { result.status ≡ status_number result.outcome }
+{
+    match decided(alloc, words, shelf) {
+        Ok(answer) => {
+            let Answer { outcome, text } = answer;
+            finished(outcome, text.as_slice(), out)
+        }
+        Err(_) => finished(Outcome::NoMemory, b"no memory\n", out),
+    }
+}
+
+// The answer before anything is written.
+fn decided<S: Shelf>(alloc: Global, words: &[Text], shelf: &mut S) -> Result<Answer, AllocError>
+    ensures answer { IfOk result (λ a. IsAnswer (S.faults shelf.old) (S.faults shelf.new) (S.files shelf.old) (task_of words.now) a.outcome a.text) }
+    ensures opened { OpensOnly (task_of words.now) (S.opened shelf.old) (S.opened shelf.new) }
+{
+    match read_words(words) {
+        Some(task) => answered(alloc, &task, shelf),
+        None => refused_words(alloc),
+    }
+}
+
+fn refused_words(alloc: Global) -> Result<Answer, AllocError>
+    ensures outcome { IfOk result (λ a. a.outcome ≡ Outcome.Refused (Refusal.NotBuilt NotBuilt.Words)) }
+    ensures text { IfOk result (λ a. a.text ≡ line (codes "refused: not built")) }
+{
+    let text = Bytes::from_slice(alloc, b"refused: not built\n")?;
+    Ok(Answer {
+        outcome: Outcome::Refused(Refusal::NotBuilt {
+            part: NotBuilt::Words,
+        }),
+        text,
+    })
+}
+
+// The answer for a task.
+fn answered<S: Shelf>(alloc: Global, task: &Task, shelf: &mut S) -> Result<Answer, AllocError>
+    requires bound { (1 ≤ task.now.bound) × (task.now.bound ≤ 1000) }
+    ensures answer { IfOk result (λ a. IsAnswer (S.faults shelf.old) (S.faults shelf.new) (S.files shelf.old) (Some (asked task.now)) a.outcome a.text) }
+    ensures opened { OpensOnly (Some (asked task.now)) (S.opened shelf.old) (S.opened shelf.new) }
+{
+    match read_file(alloc, shelf, task.file) {
+        Ok(source) => judged(alloc, task, &source),
+        Err(ReadEnd::Failed) => {
+            let text = Bytes::from_slice(alloc, b"fault: read\n")?;
+            Ok(Answer {
+                outcome: Outcome::ReadFault,
+                text,
+            })
+        }
+        Err(ReadEnd::NoMemory) => Err(AllocError),
+    }
+}
+
+// Writes the text of an outcome and reports it, or the fault of writing.
+fn finished<K: Sink>(outcome: Outcome, text: &[u8], out: &mut K) -> Report
+    requires other { outcome ≢ Outcome.WriteFault }
+    ensures told { result.outcome ≢ Outcome.WriteFault → (result.outcome ≡ outcome) × Appends (K.held out.old) (K.held out.new) text.now }
+    ensures begun { result.outcome ≡ Outcome.WriteFault → AppendsFront (K.held out.old) (K.held out.new) text.now }
+    ensures cause { result.outcome ≡ Outcome.WriteFault → Rose (K.faults out.old) (K.faults out.new) }
+    ensures status { result.status ≡ status_number result.outcome }
+{
+    match write_all(out, text) {
+        Ok(()) => Report::of(outcome),
+        Err(_) => Report::of(Outcome::WriteFault),
+    }
+}

@@ -1,0 +1,49 @@
+//! The words of the program.
+
+ghost use Rattle.std.specs.Prelude.{◌≡◌, ◌≤◌, None, Some, IfSome, MatchOption};
+ghost use Rattle.hy_text.specs.Number.{number_of};
+ghost use Rattle.hydra_top.specs.Words.{bound_in, task_of};
+ghost use Rattle.hydra_top.specs.Asked.{asked};
+
+use hy_text::{Text, read_u64};
+
+/// What is asked: a search of the runs of the procedure `entry` of the file `file` within `bound`,
+/// which is 1 to 1000.
+#[derive(Clone, Copy)]
+pub struct Task<'a> {
+    pub file: &'a Text,
+    pub entry: &'a Text,
+    pub bound: u32,
+}
+
+/// The task of the words, or None where they are not of the form: `solo`, a file, an entry, and a
+/// bound from 1 to 1000 in digits. File and entry are any text.
+pub fn read_words<'a>(words: &'a [Text]) -> Option<Task<'a>>
+    ensures task { MatchOption result (task_of words.now ≡ None) (λ t. task_of words.now ≡ Some (asked t)) }
+    ensures bound { IfSome result (λ t. (1 ≤ t.bound) × (t.bound ≤ 1000)) }
+{
+    let [job, file, entry, digits] = words else {
+        return None;
+    };
+    if job.as_str() != "solo" {
+        return None;
+    }
+    let bound = read_bound(digits.as_bytes())?;
+    Some(Task { file, entry, bound })
+}
+
+// The bound that the digits write.
+fn read_bound(digits: &[u8]) -> Option<u32>
+    ensures bound { result ≡ bound_in (number_of digits.now) }
+    ensures within { IfSome result (λ n. (1 ≤ n) × (n ≤ 1000)) }
+{
+    match read_u64(digits) {
+        Ok(n) => {
+            if 1 <= n && n <= 1000 {
+                return Some(n as u32);
+            }
+            None
+        }
+        Err(_) => None,
+    }
+}
