@@ -1,0 +1,4 @@
+pub mod Evaluating
+pub mod ResultSorts
+pub mod Tables
+pub mod Words

@@ -1,0 +1,11 @@
+pub mod Biased
+pub mod Bits
+pub mod Exprs
+pub mod Maps
+pub mod NodeSorts
+pub mod Operators
+pub mod Places
+pub mod Sorts
+pub mod Table
+pub mod Values
+pub mod Word
