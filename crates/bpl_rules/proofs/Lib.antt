@@ -1,0 +1,9 @@
+pub mod Laws
+pub mod Single
+pub mod Choice
+pub mod Many
+pub mod Rises
+pub mod Whole
+pub mod Turns
+pub mod Nested
+pub mod Forms
