@@ -1,0 +1,9 @@
+pub mod CommentLaws
+pub mod CutLaws
+pub mod DigitLaws
+pub mod Fronts
+pub mod PieceLaws
+pub mod Runs
+pub mod SpellingLaws
+pub mod TokensLaws
+pub mod Within
