@@ -1,0 +1,14 @@
+pub mod EachTerminal
+pub mod LevelsLaws
+pub mod LevelsRises
+pub mod NamesLaws
+pub mod SortsLaws
+pub mod ExprsLaws
+pub mod StmtsLaws
+pub mod DeclsLaws
+pub mod NamesRises
+pub mod SortsRises
+pub mod ExprsRises
+pub mod StmtsRises
+pub mod DeclsRises
+pub mod WholeLaws

@@ -1,0 +1,9 @@
+pub mod Tests
+pub mod Reader
+pub mod Names
+pub mod Sorts
+pub mod Exprs
+pub mod Stmts
+pub mod Decls
+pub mod Told
+pub mod Promises
