@@ -1,0 +1,6 @@
+pub mod Accepting
+pub mod Looking
+pub mod Looks
+pub mod Newness
+pub mod Soundness
+pub mod Trails
