@@ -1,0 +1,4 @@
+pub mod Wires
+pub mod Ties
+pub mod Runs
+pub mod Steps
