@@ -1,0 +1,10 @@
+pub mod Totals
+pub mod Moves
+pub mod Passes
+pub mod Places
+pub mod Replacements
+pub mod Steals
+pub mod Partings
+pub mod Drains
+pub mod Counts
+pub mod Meetings

@@ -1,0 +1,5 @@
+pub mod Rule
+pub mod Seats
+pub mod Thief
+pub mod Build
+pub mod Closing
