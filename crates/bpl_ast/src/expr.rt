@@ -3,8 +3,34 @@
 use crate::name::Name;
 use sqlite_items::{Boxed, Items};
 
+/// What stands in brackets after an operand. Brackets are a list, so that a tree is no deeper than its phrases nest.
+#[derive(Debug, Drop)]
+#[cycle(expression)]
+pub enum Bracket {
+    /// `map[index]`
+    Select {
+        /// The index.
+        index: Expr,
+    },
+    /// `map[index := value]`
+    Store {
+        /// The index.
+        index: Expr,
+        /// The value at the index.
+        value: Expr,
+    },
+    /// `operand[high:low]`, the bits from low on, below high.
+    Extract {
+        /// The first bit above the extract.
+        high: u128,
+        /// The lowest bit of the extract.
+        low: u128,
+    },
+}
+
 /// An expression. A node whose first operand stands in parentheses begins at the parenthesis.
 #[derive(Debug, Drop)]
+#[cycle(expression)]
 pub enum Expr {
     /// `true`
     True {
@@ -37,36 +63,14 @@ pub enum Expr {
         /// The arguments, any number of them.
         arguments: Items<Expr>,
     },
-    /// `map[index]`
-    Select {
+    /// `operand[..][..]..`: each bracket applies to all that stands before it.
+    Post {
         /// The offset of the first token.
         at: usize,
-        /// The map.
-        map: Boxed<Expr>,
-        /// The index.
-        index: Boxed<Expr>,
-    },
-    /// `map[index := value]`
-    Store {
-        /// The offset of the first token.
-        at: usize,
-        /// The map.
-        map: Boxed<Expr>,
-        /// The index.
-        index: Boxed<Expr>,
-        /// The value at the index.
-        value: Boxed<Expr>,
-    },
-    /// `operand[high:low]`, the bits from low on, below high.
-    Extract {
-        /// The offset of the first token.
-        at: usize,
-        /// The bit vector.
+        /// What the first bracket applies to.
         operand: Boxed<Expr>,
-        /// The first bit above the extract.
-        high: u128,
-        /// The lowest bit of the extract.
-        low: u128,
+        /// One bracket or more.
+        brackets: Items<Bracket>,
     },
     /// `!operand`
     Not {

@@ -13,7 +13,7 @@ pub use decl::{
     Ast, Axiom, Body, Constants, Decl, Function, FunctionArgument, FunctionResult, Group, Heads,
     Implementation, Modifies, ParameterGroup, Procedure, Synonym, Variables,
 };
-pub use expr::Expr;
+pub use expr::{Bracket, Expr};
 pub use name::{Attribute, Lexeme, Name};
 pub use sort::Sort;
 pub use stmt::{Else, Guard, If, Invariant, Stmt, Target};

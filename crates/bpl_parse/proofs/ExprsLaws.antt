@@ -4,14 +4,13 @@ use Rattle.bpl_ast.specs.declared.expr.Expr.{Expr}
 use Rattle.bpl_parse.proofs.EachTerminal.{apart, within}
 use Rattle.bpl_parse.proofs.LevelsLaws.{LevelsAre}
 use Rattle.bpl_parse.proofs.NamesLaws.{name_lawful}
-use Rattle.bpl_parse.specs.Exprs.{no_arguments, some_arguments, after_arguments, arguments, literal_of, truth, falsehood, literal, after_group, group, named_of, named, atom, bits_of, bit_range, selected, stored, after_index, indexed, after_bracket, suffix, all_suffixed, post, after_bang, negation_of, negation, unary, chain_of, cat, relation_of, equal_to, unequal_to, relation_tail, rel, logic_of, conjunct, disjunct, ands, ors, logic_tail, logic, implication_of, after_implies, right, left, rights, lefts, impl_tail, implication, equiv, choice_of, after_if, choice, expr}
+use Rattle.bpl_parse.specs.Exprs.{no_arguments, some_arguments, after_arguments, arguments, literal_of, truth, falsehood, literal, after_group, group, named_of, named, atom, bits_of, bit_range, selected, stored, after_index, indexed, after_bracket, suffix, index_of, post_of, post, after_bang, negation_of, negation, unary, chain_of, cat, relation_of, equal_to, unequal_to, relation_tail, rel, logic_of, conjunct, disjunct, ands, ors, logic_tail, logic, implication_of, after_implies, right, left, rights, lefts, impl_tail, implication, equiv, choice_of, after_if, choice, expr}
 use Rattle.bpl_parse.specs.Names.{name}
 use Rattle.bpl_parse.specs.Reader.{Reader, place_of, as_expr, as_impl, as_unary, Levels}
 use Rattle.bpl_parse.specs.Tests.{is, begins_atom, begins_unary, begins_expr, follows_post, follows_cat, follows_rel, follows_logic, follows_impl, follows_expr}
 use Rattle.bpl_parse.specs.declared.parts.ImplicationTail.TheVariants as impls
 use Rattle.bpl_parse.specs.declared.parts.LogicTail.TheVariants as logics
 use Rattle.bpl_parse.specs.declared.parts.RelationTail.TheVariants as relations
-use Rattle.bpl_parse.specs.declared.parts.Suffix.TheVariants.{At}
 use Rattle.bpl_parse.specs.declared.place.Place.TheVariants as at
 use Rattle.bpl_rules.proofs.Choice.{seq_lawful, made_lawful, placed_lawful, alt_lawful, sealed_lawful}
 use Rattle.bpl_rules.proofs.Forms.{some_lawful, behind_lawful, ended_lawful, separated_lawful}
@@ -79,7 +78,7 @@ pub after_index_lawful : (r : Reader Expr) → Lawful (as_expr r) → Lawful (af
 after_index_lawful r R = alt_lawful selected (stored r) selected_lawful (stored_lawful r R) (apart (λ t. refl) (λ t. refl) refl) refl
 
 pub indexed_lawful : (r : Reader Expr) → Lawful (as_expr r) → Lawful (indexed r)
-indexed_lawful r R = made_lawful (λ x. At x.0 x.1) (seq (as_expr r) (after_index r)) (seq_lawful (as_expr r) (after_index r) R (after_index_lawful r R) (apart (λ t. refl) (λ t. refl) refl))
+indexed_lawful r R = made_lawful index_of (seq (as_expr r) (after_index r)) (seq_lawful (as_expr r) (after_index r) R (after_index_lawful r R) (apart (λ t. refl) (λ t. refl) refl))
 
 pub after_bracket_lawful : (r : Reader Expr) → Lawful (as_expr r) → Lawful (after_bracket r)
 after_bracket_lawful r R = alt_lawful bit_range (indexed r) bit_range_lawful (indexed_lawful r R) (apart (λ t. refl) (λ t. refl) refl) refl
@@ -93,7 +92,7 @@ suffix_lawful l L = nested_lawful at.AfterOperand (is k.LeftBracket) never (λ x
 
 pub post_lawful : (s : List ℕ) (l : Levels) → LevelsAre l → Lawful (post s l)
 unfolding post atom suffix
-post_lawful s l L = sealed_lawful begins_atom false follows_post (placed (λ t x. all_suffixed (place_of t) x.0 x.1) (seq (atom s l) (many (suffix l)))) (placed_lawful (λ t x. all_suffixed (place_of t) x.0 x.1) (seq (atom s l) (many (suffix l))) (seq_lawful (atom s l) (many (suffix l)) (atom_lawful s l L) (many_lawful (suffix l) (suffix_lawful l L) refl (apart (λ t. refl) (λ t. refl) refl)) (apart (λ t. refl) (λ t. refl) refl)) refl) refl (within (λ t. refl) (λ t. refl) refl) (within (λ t. refl) (λ t. refl) refl)
+post_lawful s l L = sealed_lawful begins_atom false follows_post (placed (λ t. post_of (place_of t)) (seq (atom s l) (many (suffix l)))) (placed_lawful (λ t. post_of (place_of t)) (seq (atom s l) (many (suffix l))) (seq_lawful (atom s l) (many (suffix l)) (atom_lawful s l L) (many_lawful (suffix l) (suffix_lawful l L) refl (apart (λ t. refl) (λ t. refl) refl)) (apart (λ t. refl) (λ t. refl) refl)) refl) refl (within (λ t. refl) (λ t. refl) refl) (within (λ t. refl) (λ t. refl) refl)
 
 pub after_bang_lawful : (r : Reader Expr) → Lawful (as_unary r) → Lawful (after_bang r)
 after_bang_lawful r R = R

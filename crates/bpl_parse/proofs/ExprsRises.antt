@@ -6,14 +6,13 @@ use Rattle.bpl_parse.proofs.ExprsLaws.{arguments_lawful, arguments_after, group_
 use Rattle.bpl_parse.proofs.LevelsLaws.{LevelsAre}
 use Rattle.bpl_parse.proofs.LevelsRises.{LevelsRise, Goes}
 use Rattle.bpl_parse.proofs.NamesRises.{name_rises, name_example}
-use Rattle.bpl_parse.specs.Exprs.{no_arguments, some_arguments, after_arguments, arguments, literal_of, truth, falsehood, literal, after_group, group, named_of, named, atom, bits_of, bit_range, selected, stored, after_index, indexed, after_bracket, suffix, all_suffixed, post, after_bang, negation_of, negation, unary, chain_of, cat, relation_of, equal_to, unequal_to, relation_tail, rel, logic_of, conjunct, disjunct, ands, ors, logic_tail, logic, implication_of, after_implies, right, left, rights, lefts, impl_tail, implication, equiv, choice_of, after_if, choice, expr}
+use Rattle.bpl_parse.specs.Exprs.{no_arguments, some_arguments, after_arguments, arguments, literal_of, truth, falsehood, literal, after_group, group, named_of, named, atom, bits_of, bit_range, selected, stored, after_index, indexed, after_bracket, suffix, index_of, post_of, post, after_bang, negation_of, negation, unary, chain_of, cat, relation_of, equal_to, unequal_to, relation_tail, rel, logic_of, conjunct, disjunct, ands, ors, logic_tail, logic, implication_of, after_implies, right, left, rights, lefts, impl_tail, implication, equiv, choice_of, after_if, choice, expr}
 use Rattle.bpl_parse.specs.Names.{name}
 use Rattle.bpl_parse.specs.Reader.{Reader, place_of, as_expr, as_impl, as_unary, Levels}
 use Rattle.bpl_parse.specs.Tests.{is, begins_atom, begins_unary, begins_expr, follows_post, follows_cat, follows_rel, follows_logic, follows_impl, follows_expr}
 use Rattle.bpl_parse.specs.declared.parts.ImplicationTail.TheVariants as impls
 use Rattle.bpl_parse.specs.declared.parts.LogicTail.TheVariants as logics
 use Rattle.bpl_parse.specs.declared.parts.RelationTail.TheVariants as relations
-use Rattle.bpl_parse.specs.declared.parts.Suffix.TheVariants.{At}
 use Rattle.bpl_parse.specs.declared.place.Place.TheVariants as at
 use Rattle.bpl_rules.proofs.Choice.{seq_lawful}
 use Rattle.bpl_rules.proofs.Forms.{behind_lawful, ended_lawful, some_rises, behind_rises, ended_rises, separated_rises, has_some, has_behind, has_ended, has_separated}
@@ -121,10 +120,10 @@ pub after_index_rises : (r q : Reader Expr) → Lawful (as_expr q) → Goes (as_
 after_index_rises r q Q G = alt_rises selected selected (stored r) (stored q) selected_rises (stored_rises r q Q G) (λ t. refl)
 
 pub indexed_example : (q : Reader Expr) → HasExample (as_expr q) → HasExample (indexed q)
-indexed_example q X = has_made (λ x. At x.0 x.1) (seq (as_expr q) (after_index q)) (has_seq (as_expr q) (after_index q) X (after_index_example q))
+indexed_example q X = has_made index_of (seq (as_expr q) (after_index q)) (has_seq (as_expr q) (after_index q) X (after_index_example q))
 
 pub indexed_rises : (r q : Reader Expr) → Lawful (as_expr q) → Goes (as_expr r) (as_expr q) → Rises (indexed r) (indexed q)
-indexed_rises r q Q G = made_rises (λ x. At x.0 x.1) (seq (as_expr r) (after_index r)) (seq (as_expr q) (after_index q)) (seq_rises (as_expr r) (as_expr q) (after_index r) (after_index q) G.0 (after_index_rises r q Q G) (after_index_lawful q Q) (after_index_example q))
+indexed_rises r q Q G = made_rises index_of (seq (as_expr r) (after_index r)) (seq (as_expr q) (after_index q)) (seq_rises (as_expr r) (as_expr q) (after_index r) (after_index q) G.0 (after_index_rises r q Q G) (after_index_lawful q Q) (after_index_example q))
 
 pub after_bracket_example : (q : Reader Expr) → HasExample (after_bracket q)
 after_bracket_example q = has_first bit_range (indexed q) bit_range_example
@@ -142,11 +141,11 @@ suffix_rises l m R M = nested_rises at.AfterOperand (is k.LeftBracket) never (λ
 
 pub post_example : (s : List ℕ) (l m : Levels) → LevelsRise l m → HasExample (post s m)
 unfolding post
-post_example s l m R = has_sealed begins_atom false follows_post (placed (λ t x. all_suffixed (place_of t) x.0 x.1) (seq (atom s m) (many (suffix m)))) (has_placed (λ t x. all_suffixed (place_of t) x.0 x.1) (seq (atom s m) (many (suffix m))) (has_seq (atom s m) (many (suffix m)) (atom_example s l m R) (has_many (suffix m))))
+post_example s l m R = has_sealed begins_atom false follows_post (placed (λ t. post_of (place_of t)) (seq (atom s m) (many (suffix m)))) (has_placed (λ t. post_of (place_of t)) (seq (atom s m) (many (suffix m))) (has_seq (atom s m) (many (suffix m)) (atom_example s l m R) (has_many (suffix m))))
 
 pub post_rises : (s : List ℕ) (l m : Levels) → LevelsRise l m → LevelsAre m → Rises (post s l) (post s m)
 unfolding post atom suffix
-post_rises s l m R M = sealed_rises begins_atom false follows_post (placed (λ t x. all_suffixed (place_of t) x.0 x.1) (seq (atom s l) (many (suffix l)))) (placed (λ t x. all_suffixed (place_of t) x.0 x.1) (seq (atom s m) (many (suffix m)))) (placed_rises (λ t x. all_suffixed (place_of t) x.0 x.1) (seq (atom s l) (many (suffix l))) (seq (atom s m) (many (suffix m))) (seq_rises (atom s l) (atom s m) (many (suffix l)) (many (suffix m)) (atom_rises s l m R M) (many_rises (suffix l) (suffix m) (suffix_rises l m R M) (suffix_lawful m M) (λ t. refl)) (many_lawful (suffix m) (suffix_lawful m M) refl (apart (λ t. refl) (λ t. refl) refl)) (has_many (suffix m))))
+post_rises s l m R M = sealed_rises begins_atom false follows_post (placed (λ t. post_of (place_of t)) (seq (atom s l) (many (suffix l)))) (placed (λ t. post_of (place_of t)) (seq (atom s m) (many (suffix m)))) (placed_rises (λ t. post_of (place_of t)) (seq (atom s l) (many (suffix l))) (seq (atom s m) (many (suffix m))) (seq_rises (atom s l) (atom s m) (many (suffix l)) (many (suffix m)) (atom_rises s l m R M) (many_rises (suffix l) (suffix m) (suffix_rises l m R M) (suffix_lawful m M) (λ t. refl)) (many_lawful (suffix m) (suffix_lawful m M) refl (apart (λ t. refl) (λ t. refl) refl)) (has_many (suffix m))))
 
 pub after_bang_example : (q : Reader Expr) → HasExample (as_unary q) → HasExample (after_bang q)
 after_bang_example q X = X

@@ -9,6 +9,8 @@
 -- atom  = "true" | "false" | literal | id | id "(" [ expr { "," expr } ] ")" | "(" expr ")"
 -- Parentheses, brackets, the operand of `!`, the parts of an `if` and the right side of `==>` nest one level deeper.
 use Rattle.std.specs.Prelude.{ℕ, true, false, List, [], ◌∷◌, Option, Some, None}
+use Rattle.bpl_ast.specs.declared.expr.Bracket.{Bracket}
+use Rattle.bpl_ast.specs.declared.expr.Bracket.TheVariants.{Select, Store, Extract}
 use Rattle.bpl_ast.specs.declared.expr.Expr.{Expr}
 use Rattle.bpl_ast.specs.declared.expr.Expr.TheVariants as e
 use Rattle.bpl_ast.specs.declared.name.Name.{Name}
@@ -24,8 +26,6 @@ use Rattle.bpl_parse.specs.declared.parts.LogicTail.{LogicTail}
 use Rattle.bpl_parse.specs.declared.parts.LogicTail.TheVariants as logics
 use Rattle.bpl_parse.specs.declared.parts.RelationTail.{RelationTail}
 use Rattle.bpl_parse.specs.declared.parts.RelationTail.TheVariants as relations
-use Rattle.bpl_parse.specs.declared.parts.Suffix.{Suffix}
-use Rattle.bpl_parse.specs.declared.parts.Suffix.TheVariants.{At, Bits}
 use Rattle.bpl_parse.specs.declared.place.Place.TheVariants as at
 use Rattle.bpl_rules.specs.Rules.{Rule, one, two, empty, seq, made, placed, alt, maybe, many, some, sealed, never, behind, ended, separated, nested}
 use Rattle.bpl_parse.specs.Tests.{is, begins_atom, begins_unary, begins_expr, follows_post, follows_cat, follows_rel, follows_logic, follows_impl, follows_expr}
@@ -99,11 +99,11 @@ atom s l = sealed begins_atom false (is k.LeftParen) (alt truth (alt falsehood (
 
 -- ---- brackets after an operand
 
-abbrev pub bits_of : (Token × Token) × Token → Suffix
-bits_of x = Bits (number_of x.0.0.kind) (number_of x.1.kind)
+abbrev pub bits_of : (Token × Token) × Token → Bracket
+bits_of x = Extract (number_of x.0.0.kind) (number_of x.1.kind)
 
 -- a number after the bracket needs the colon after it
-abbrev pub bit_range : Reader Suffix
+abbrev pub bit_range : Reader Bracket
 bit_range = made bits_of (seq (two at.Operand (is k.Number) (is k.Colon)) (ended (one at.Other (is k.Number)) at.Other (is k.RightBracket)))
 
 abbrev pub selected : Reader (Option Expr)
@@ -115,27 +115,27 @@ stored r = made Some (behind at.AfterIndex (is k.Assign) (ended (as_expr r) at.A
 abbrev pub after_index : Reader Expr → Reader (Option Expr)
 after_index r = alt selected (stored r)
 
-abbrev pub indexed : Reader Expr → Reader Suffix
-indexed r = made (λ x. At x.0 x.1) (seq (as_expr r) (after_index r))
+-- an index alone selects, one with a value stores
+abbrev pub index_of : Expr × Option Expr → Bracket
+index_of (index, None) = Select index
+index_of (index, Some value) = Store index value
 
-abbrev pub after_bracket : Reader Expr → Reader Suffix
+abbrev pub indexed : Reader Expr → Reader Bracket
+indexed r = made index_of (seq (as_expr r) (after_index r))
+
+abbrev pub after_bracket : Reader Expr → Reader Bracket
 after_bracket r = alt bit_range (indexed r)
 
-unfoldable pub suffix : Levels → Reader Suffix
+unfoldable pub suffix : Levels → Reader Bracket
 suffix l = nested at.AfterOperand (is k.LeftBracket) never (λ x. x.1) after_bracket l.exprs
 
-abbrev pub suffixed : ℕ → Expr → Suffix → Expr
-suffixed place inner (At index None) = e.Select place inner index
-suffixed place inner (At index (Some value)) = e.Store place inner index value
-suffixed place inner (Bits high low) = e.Extract place inner high low
-
--- each bracket applies to all that stands before it
-abbrev pub all_suffixed : ℕ → Expr → List Suffix → Expr
-all_suffixed place inner [] = inner
-all_suffixed place inner (x ∷ xs) = all_suffixed place (suffixed place inner x) xs
+-- each bracket applies to all that stands before it; an operand without brackets is itself
+abbrev pub post_of : ℕ → Expr × List Bracket → Expr
+post_of place (operand, []) = operand
+post_of place (operand, b ∷ bs) = e.Post place operand (b ∷ bs)
 
 unfoldable pub post : List ℕ → Levels → Reader Expr
-post s l = sealed begins_atom false follows_post (placed (λ t x. all_suffixed (place_of t) x.0 x.1) (seq (atom s l) (many (suffix l))))
+post s l = sealed begins_atom false follows_post (placed (λ t. post_of (place_of t)) (seq (atom s l) (many (suffix l))))
 
 -- ---- operators
 

@@ -14,15 +14,6 @@ pub enum Level {
     Unary,
 }
 
-/// What stands in brackets after an operand.
-#[derive(Debug, Drop)]
-pub enum Suffix {
-    /// An index, and the value that is stored there.
-    At(Expr, Option<Expr>),
-    /// The high and the low number of an extract.
-    Bits(u128, u128),
-}
-
 /// What follows the first side of an equation.
 #[derive(Debug, Drop)]
 pub enum RelationTail {
