@@ -12,3 +12,7 @@ pub mod ExprsRises
 pub mod StmtsRises
 pub mod DeclsRises
 pub mod WholeLaws
+pub mod Ranks
+pub mod Loops
+pub mod LevelLaws
+pub mod ParseLaws

@@ -3,14 +3,14 @@ use Rattle.bpl_ast.specs.declared.decl.Ast.{Ast}
 use Rattle.bpl_parse.proofs.DeclsLaws.{whole_lawful}
 use Rattle.bpl_parse.proofs.DeclsRises.{whole_rises, whole_example}
 use Rattle.bpl_parse.specs.Decls.{whole}
-use Rattle.bpl_parse.specs.Promises.{Reads, IsExact, HasOneTree}
+use Rattle.bpl_parse.specs.Promises.{IsExact, HasOneTree}
 use Rattle.bpl_parse.specs.declared.place.Place.{Place}
 use Rattle.bpl_rules.proofs.Laws.{ok_is}
 use Rattle.bpl_rules.proofs.Whole as read
 use Rattle.bpl_rules.specs.Reading.{AreFronts}
 use Rattle.bpl_rules.specs.Rules.{Halt}
 use Rattle.bpl_tok.specs.declared.token.Token.{Token}
-use Rattle.std.proofs.Common.{◌≡◌, ℕ, List, [], sym, ap, ◌∙◌}
+use Rattle.std.proofs.Common.{ℕ, List, [], sym, ap, ◌∙◌}
 
 pub is_exact : (source : List ℕ) (ts : List Token) → IsExact source ts
 is_exact source ts = record {

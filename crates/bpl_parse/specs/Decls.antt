@@ -14,24 +14,18 @@
 -- spec     = "modifies" {attr} [ids] ";"
 -- body     = "{" { "var" {attr} groups ";" } {stmt} "}"
 -- None of these parentheses and braces nests.
-use Rattle.std.specs.Prelude.{ℕ, Bool, true, false, zero, suc, List, [], ◌∷◌, Option, Some, None, is_some}
+use Rattle.std.specs.Prelude.{ℕ, Bool, false, zero, suc, List, [], Option, Some, None, is_some}
 use Rattle.bpl_ast.specs.declared.decl.Ast.{Ast}
-use Rattle.bpl_ast.specs.declared.decl.Axiom.{Axiom}
 use Rattle.bpl_ast.specs.declared.decl.Body.{Body}
-use Rattle.bpl_ast.specs.declared.decl.Constants.{Constants}
 use Rattle.bpl_ast.specs.declared.decl.Decl.{Decl}
 use Rattle.bpl_ast.specs.declared.decl.Decl.TheVariants as decls
-use Rattle.bpl_ast.specs.declared.decl.Function.{Function}
 use Rattle.bpl_ast.specs.declared.decl.FunctionArgument.{FunctionArgument}
 use Rattle.bpl_ast.specs.declared.decl.FunctionResult.{FunctionResult}
 use Rattle.bpl_ast.specs.declared.decl.FunctionResult.TheVariants as results
 use Rattle.bpl_ast.specs.declared.decl.Group.{Group}
 use Rattle.bpl_ast.specs.declared.decl.Heads.{Heads}
-use Rattle.bpl_ast.specs.declared.decl.Implementation.{Implementation}
 use Rattle.bpl_ast.specs.declared.decl.Modifies.{Modifies}
 use Rattle.bpl_ast.specs.declared.decl.ParameterGroup.{ParameterGroup}
-use Rattle.bpl_ast.specs.declared.decl.Procedure.{Procedure}
-use Rattle.bpl_ast.specs.declared.decl.Synonym.{Synonym}
 use Rattle.bpl_ast.specs.declared.decl.Variables.{Variables}
 use Rattle.bpl_ast.specs.declared.expr.Expr.{Expr}
 use Rattle.bpl_ast.specs.declared.name.Attribute.{Attribute}
@@ -43,8 +37,8 @@ use Rattle.bpl_tok.specs.declared.token.Terminal.TheVariants as k
 use Rattle.bpl_tok.specs.declared.token.Token.{Token}
 use Rattle.bpl_parse.specs.declared.place.Place.{Place}
 use Rattle.bpl_parse.specs.declared.place.Place.TheVariants as at
-use Rattle.bpl_rules.specs.Rules.{Rule, bottom, above, one, end, refuse, seq, made, placed, alt, maybe, many, sealed, never, behind, ended, separated}
-use Rattle.bpl_parse.specs.Tests.{is, begins_sort, begins_parameter, begins_contract, begins_spec, begins_procedure_end, begins_function_end, begins_decl}
+use Rattle.bpl_rules.specs.Rules.{bottom, above, one, end, refuse, seq, made, placed, alt, maybe, many, sealed, never, behind, ended, separated}
+use Rattle.bpl_parse.specs.Tests.{is, begins_sort, begins_parameter, begins_contract, begins_spec, begins_procedure_end, begins_decl}
 use Rattle.bpl_parse.specs.Reader.{Reader, Levels, place_of}
 use Rattle.bpl_parse.specs.Names.{name, names, attributes}
 use Rattle.bpl_parse.specs.Sorts.{sort, unnamed_sort}

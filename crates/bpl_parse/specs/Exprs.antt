@@ -8,7 +8,7 @@
 -- post  = atom { "[" expr "]" | "[" expr ":=" expr "]" | "[" number ":" number "]" }
 -- atom  = "true" | "false" | literal | id | id "(" [ expr { "," expr } ] ")" | "(" expr ")"
 -- Parentheses, brackets, the operand of `!`, the parts of an `if` and the right side of `==>` nest one level deeper.
-use Rattle.std.specs.Prelude.{ℕ, true, false, List, [], ◌∷◌, Option, Some, None}
+use Rattle.std.specs.Prelude.{ℕ, false, List, [], ◌∷◌, Option, Some, None}
 use Rattle.bpl_ast.specs.declared.expr.Bracket.{Bracket}
 use Rattle.bpl_ast.specs.declared.expr.Bracket.TheVariants.{Select, Store, Extract}
 use Rattle.bpl_ast.specs.declared.expr.Expr.{Expr}
@@ -27,7 +27,7 @@ use Rattle.bpl_parse.specs.declared.parts.LogicTail.TheVariants as logics
 use Rattle.bpl_parse.specs.declared.parts.RelationTail.{RelationTail}
 use Rattle.bpl_parse.specs.declared.parts.RelationTail.TheVariants as relations
 use Rattle.bpl_parse.specs.declared.place.Place.TheVariants as at
-use Rattle.bpl_rules.specs.Rules.{Rule, one, two, empty, seq, made, placed, alt, maybe, many, some, sealed, never, behind, ended, separated, nested}
+use Rattle.bpl_rules.specs.Rules.{one, two, empty, seq, made, placed, alt, maybe, many, some, sealed, never, behind, ended, separated, nested}
 use Rattle.bpl_parse.specs.Tests.{is, begins_atom, begins_unary, begins_expr, follows_post, follows_cat, follows_rel, follows_logic, follows_impl, follows_expr}
 use Rattle.bpl_parse.specs.Reader.{Reader, Levels, place_of, as_expr, as_impl, as_unary}
 use Rattle.bpl_parse.specs.Names.{name}

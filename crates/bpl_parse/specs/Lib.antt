@@ -7,3 +7,5 @@ pub mod Stmts
 pub mod Decls
 pub mod Told
 pub mod Promises
+pub mod Gives
+pub mod Nests

@@ -9,7 +9,7 @@ use Rattle.bpl_tok.specs.declared.token.Terminal.TheVariants as k
 use Rattle.bpl_tok.specs.declared.token.Token.{Token}
 use Rattle.bpl_parse.specs.declared.place.Place.{Place}
 use Rattle.bpl_parse.specs.declared.place.Place.TheVariants as at
-use Rattle.bpl_rules.specs.Rules.{Rule, one, seq, made, many, sealed, never, behind, ended, separated}
+use Rattle.bpl_rules.specs.Rules.{one, seq, made, many, sealed, never, behind, ended, separated}
 use Rattle.bpl_parse.specs.Tests.{is, is_no_brace}
 use Rattle.bpl_parse.specs.Reader.{Reader, text_of, name_of}
 

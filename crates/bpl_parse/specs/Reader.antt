@@ -1,5 +1,5 @@
 -- What all rules of the grammar share: the names of a source, and what may still be nested.
-use Rattle.std.specs.Prelude.{ℕ, Bool, true, false, List, [], ◌∷◌, Option, Some, None, take, drop}
+use Rattle.std.specs.Prelude.{ℕ, true, false, List, Option, Some, None, take, drop}
 use Rattle.bpl_ast.specs.declared.expr.Expr.{Expr}
 use Rattle.bpl_ast.specs.declared.name.Name.{Name}
 use Rattle.bpl_ast.specs.declared.sort.Sort.{Sort}

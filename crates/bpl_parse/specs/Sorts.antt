@@ -1,6 +1,6 @@
 -- sort = "bool" | "bvN" | id | "[" sort "]" sort | "(" sort ")"
 -- The brackets and the element sort after them nest one level deeper, and so do the parentheses.
-use Rattle.std.specs.Prelude.{ℕ, true, false, List, Option, Some, None}
+use Rattle.std.specs.Prelude.{ℕ, false, List, Some, None}
 use Rattle.bpl_ast.specs.declared.sort.Sort.{Sort}
 use Rattle.bpl_ast.specs.declared.sort.Sort.TheVariants as sorts
 use Rattle.bpl_tok.specs.declared.token.Terminal.TheVariants as k
@@ -8,7 +8,7 @@ use Rattle.bpl_tok.specs.declared.token.TokKind.{TokKind}
 use Rattle.bpl_tok.specs.declared.token.TokKind.TheVariants.{Ident, Keyword, Width, Number, BvLit, Str, Sign}
 use Rattle.bpl_tok.specs.declared.token.Token.{Token}
 use Rattle.bpl_parse.specs.declared.place.Place.TheVariants as at
-use Rattle.bpl_rules.specs.Rules.{Rule, one, seq, made, alt, sealed, never, behind, ended, nested}
+use Rattle.bpl_rules.specs.Rules.{one, seq, made, alt, sealed, never, behind, ended, nested}
 use Rattle.bpl_parse.specs.Tests.{is, begins_sort, begins_unnamed}
 use Rattle.bpl_parse.specs.Reader.{Reader, Levels, text_of, name_of, as_sort}
 

@@ -27,7 +27,7 @@ use Rattle.bpl_parse.specs.declared.parts.IfRest.{IfRest}
 use Rattle.bpl_parse.specs.declared.parts.NamedRest.{NamedRest}
 use Rattle.bpl_parse.specs.declared.parts.NamedRest.TheVariants as rests
 use Rattle.bpl_parse.specs.declared.place.Place.TheVariants as at
-use Rattle.bpl_rules.specs.Rules.{Rule, one, seq, made, placed, alt, maybe, many, sealed, never, behind, ended, separated, nested}
+use Rattle.bpl_rules.specs.Rules.{one, seq, made, placed, alt, maybe, many, sealed, never, behind, ended, separated, nested}
 use Rattle.bpl_parse.specs.Tests.{is, begins_assignment, begins_simple, begins_stmt, begins_invariant, begins_if_rest, follows_stmts}
 use Rattle.bpl_parse.specs.Reader.{Reader, Levels, place_of, as_expr, as_stmts, as_if_rest}
 use Rattle.bpl_parse.specs.Names.{name, names, attributes}

@@ -1,5 +1,5 @@
 -- Tests on a token, which look at its terminal symbol alone: with what each rule of the grammar begins, and with what it may go on.
-use Rattle.std.specs.Prelude.{ℕ, Bool, true, false, not, ◌||◌, ◌==◌}
+use Rattle.std.specs.Prelude.{ℕ, Bool, not, ◌||◌, ◌==◌}
 use Rattle.bpl_tok.specs.declared.token.Terminal.{Terminal}
 use Rattle.bpl_tok.specs.declared.token.Terminal.TheVariants as k
 use Rattle.bpl_tok.specs.declared.token.Token.{Token}

@@ -1,0 +1,8 @@
+//! Statements.
+
+mod blocks;
+mod guards;
+mod named;
+mod simple;
+
+pub use blocks::statements;
