@@ -1,10 +1,25 @@
--- The programs of the form, read off the words:
---   program = { var name : bool ; } [ procedure name ( ) { { stmt } } ]      stmt = assert e ; | assume e ;
---   e = ! e | ( e ) | name | true | false
--- Each rule takes what stands at the head of the words, and gives what it means with the words that are left.
-use Rattle.std.specs.Prelude.{ℕ, zero, suc, ◌+◌, ◌-◌, nat_le, nat_lt, ◌==◌, Bool, true, false, ◌&&◌, List, [], ◌∷◌, ◌++◌, length, drop, slice_get, Option, None, Some, is_some, option_map, option_and_then, if◌then◌else◌}
+-- The programs of the form, read off the tree of a program (its sorts, expressions and statements are those of This is Boogie 2):
+--   program = { var ids : bool, .. ; } [ procedure id ( ) { { assert e ; | assume e ; } } ]      e = ! e | id | true | false
+-- with at most 16 variables of different names. Attributes mean nothing here and are passed over.
+use Rattle.std.specs.Prelude.{ℕ, ◌+◌, ◌-◌, ◌^◌, nat_lt, Bool, true, false, not, ◌&&◌, List, [], ◌∷◌, ◌++◌, length, Option, None, Some, is_some, option_map, option_and_then, if◌then◌else◌}
 use Rattle.std.specs.List.{position_from}
 use Rattle.std.specs.Str.{bytes_eq}
+use Rattle.bpl_ast.specs.declared.decl.Ast.{Ast}
+use Rattle.bpl_ast.specs.declared.decl.Body.{Body}
+use Rattle.bpl_ast.specs.declared.decl.Decl.{Decl}
+use Rattle.bpl_ast.specs.declared.decl.Decl.TheVariants as decls
+use Rattle.bpl_ast.specs.declared.decl.Group.{Group}
+use Rattle.bpl_ast.specs.declared.decl.Procedure.{Procedure as ProcedureTree}
+use Rattle.bpl_ast.specs.declared.expr.Bracket.TheFolds.{fold-Expr}
+use Rattle.bpl_ast.specs.declared.expr.Bracket.TheOpen.{Bracket-F, Expr-F}
+use Rattle.bpl_ast.specs.declared.expr.Expr.{Expr}
+use Rattle.bpl_ast.specs.declared.name.Name.{Name}
+use Rattle.bpl_ast.specs.declared.sort.Sort.{Sort as SortTree, out-Sort}
+use Rattle.bpl_ast.specs.declared.sort.Sort.TheOpen.{Sort-F}
+use Rattle.bpl_ast.specs.declared.stmt.Else.{Else}
+use Rattle.bpl_ast.specs.declared.stmt.Else.TheOpen.{Stmt-F}
+use Rattle.bpl_ast.specs.declared.stmt.If.{If}
+use Rattle.bpl_ast.specs.declared.stmt.Stmt.{Stmt, out-Stmt}
 use Rattle.src_run.specs.declared.values.Scalar.TheVariants.{Bool as BoolScalar}
 use Rattle.src_run.specs.declared.values.Sort.{Sort}
 use Rattle.src_run.specs.declared.values.Sort.TheVariants.{Scalar as ScalarSort}
@@ -18,116 +33,142 @@ use Rattle.src_run.specs.declared.prog.Cmd.{Cmd}
 use Rattle.src_run.specs.declared.prog.Cmd.TheVariants.{Assume as AssumeCmd, Assert as AssertCmd}
 use Rattle.src_run.specs.declared.prog.Next.TheVariants.{Return}
 use Rattle.src_run.specs.Program.{Program}
-use Rattle.bool_form.specs.declared.words.Mark.{Mark}
-use Rattle.bool_form.specs.declared.words.Mark.TheVariants.{Var, Bool as BoolMark, Procedure, Assert, Assume, True, False, Open, Close, OpenBrace, CloseBrace, Colon, Semicolon, Not}
-use Rattle.bool_form.specs.declared.words.Word.{Word}
-use Rattle.bool_form.specs.declared.words.Word.TheVariants.{Name, Mark as MarkWord}
-use Rattle.bool_form.specs.Words.{is_mark, words_of}
+
+-- ---- globals
 
 abbrev pub bool_sort : Sort
 bool_sort = ScalarSort BoolScalar
 
-abbrev pub is_mark_at : Mark → Option Word → Bool
-is_mark_at mark None = false
-is_mark_at mark (Some word) = is_mark mark word
+abbrev pub is_bool_node : Sort-F SortTree → Bool
+is_bool_node (Sort-F.Boolean at) = true
+is_bool_node (Sort-F.Bits at width text) = false
+is_bool_node (Sort-F.Named name) = false
+is_bool_node (Sort-F.Map at index elem) = false
 
-abbrev pub name_of : Option Word → Option (List ℕ)
-name_of None = None
-name_of (Some (Name name)) = Some name
-name_of (Some (MarkWord mark)) = None
-
--- the mark stands at the head: the words behind it
-abbrev pub past : Mark → List Word → Option (List Word)
-past mark words = if is_mark_at mark (slice_get words 0) then Some (drop 1 words) else None
+-- the sort `bool`
+abbrev pub is_bool : SortTree → Bool
+is_bool sort = is_bool_node (out-Sort sort)
 
 -- the number of the first global of this name
 abbrev pub place_of : List Named → List ℕ → Option ℕ
 place_of globals name = position_from (λ (g : Named). bytes_eq g.name name) 0 globals
 
--- a name that is declared, true or false
-abbrev pub operand_of : List Named → Word → Option (List ExprNode)
-operand_of globals (Name name) = option_map (λ number. VarNode (Global number) bool_sort ∷ []) (place_of globals name)
-operand_of globals (MarkWord mark) =
-    if is_mark True (MarkWord mark) then Some (Lit (BoolAtom true) ∷ []) else if is_mark False (MarkWord mark) then Some (Lit (BoolAtom false) ∷ []) else None
+abbrev pub named : Name → Named
+named name = record { name = name.text; sort = bool_sort }
 
-abbrev pub negated : List ExprNode × List Word → List ExprNode × List Word
-negated (nodes, words) = (nodes ++ Unary NotOp (length nodes - 1) ∷ [], words)
+-- one more global: its name is new, and there were fewer than 16
+abbrev pub with_name : List Named → Name → Option (List Named)
+with_name globals name = if nat_lt (length globals) 16 && not (is_some (place_of globals name.text)) then Some (globals ++ named name ∷ []) else None
 
--- what is read, where the mark follows it
-abbrev pub closed_by : {A : Type 0} → Mark → A × List Word → Option (A × List Word)
-closed_by mark (read, words) = option_map (λ rest. (read, rest)) (past mark words)
+abbrev pub with_names : List Named → List Name → Option (List Named)
+with_names globals [] = Some globals
+with_names globals (name ∷ names) = option_and_then (λ more. with_names more names) (with_name globals name)
 
--- what is read up to an index of the words
-abbrev pub read_to : {A : Type 0} → List Word → Option (A × ℕ) → Option (A × List Word)
-read_to words read = option_map (λ r. (r.0, drop r.1 words)) read
+-- the globals of a `var` behind those that are declared before it
+abbrev pub with_groups : List Named → List Group → Option (List Named)
+with_groups globals [] = Some globals
+with_groups globals (group ∷ groups) = if is_bool group.sort then option_and_then (λ more. with_groups more groups) (with_names globals group.names) else None
 
--- an expression, where so many more of ! and ( may be open
-abbrev pub expr_of : List Named → ℕ → List Word → Option (List ExprNode × List Word)
-expr_of globals room [] = None
-expr_of globals room (word ∷ words) =
-    if nat_lt 0 room && is_mark Not word then option_map negated (expr_of globals (room - 1) words)
-    else if nat_lt 0 room && is_mark Open word then option_and_then (closed_by Close) (expr_of globals (room - 1) words)
-    else option_map (λ nodes. (nodes, words)) (operand_of globals word)
+-- ---- expressions and statements
 
--- an expression with its semicolon, with at most 200 of ! and ( open at once
-abbrev pub tail_of : List Named → List Word → Option (List ExprNode × List Word)
-tail_of globals words = option_and_then (closed_by Semicolon) (expr_of globals 200 words)
+abbrev pub negated : List ExprNode → List ExprNode
+negated nodes = nodes ++ Unary NotOp (length nodes - 1) ∷ []
 
--- a statement, which is the assert of this number where it is one
-abbrev pub stmt_of : List Named → ℕ → List Word → Option (Cmd × List Word)
-stmt_of globals number words =
-    if is_mark_at Assert (slice_get words 0) then option_map (λ (e : List ExprNode × List Word). (AssertCmd number e.0, e.1)) (tail_of globals (drop 1 words))
-    else if is_mark_at Assume (slice_get words 0) then option_map (λ (e : List ExprNode × List Word). (AssumeCmd e.0, e.1)) (tail_of globals (drop 1 words))
-    else None
+abbrev pub literal : Bool → Option (List ExprNode)
+literal truth = Some (Lit (BoolAtom truth) ∷ [])
+
+-- a name that is declared
+abbrev pub variable : List Named → List ℕ → Option (List ExprNode)
+variable globals name = option_map (λ number. VarNode (Global number) bool_sort ∷ []) (place_of globals name)
+
+-- One node, given what its operands are. No bracket is of the form.
+abbrev pub expr_node : List Named → Expr-F (Option (List ExprNode)) (Option (List ExprNode)) → Option (List ExprNode)
+expr_node globals (Expr-F.True at) = literal true
+expr_node globals (Expr-F.False at) = literal false
+expr_node globals (Expr-F.Literal at width bits) = None
+expr_node globals (Expr-F.Variable name) = variable globals name.text
+expr_node globals (Expr-F.Apply function arguments) = None
+expr_node globals (Expr-F.Post at operand brackets) = None
+expr_node globals (Expr-F.Not at operand) = option_map negated operand
+expr_node globals (Expr-F.Concat at operands) = None
+expr_node globals (Expr-F.Equal at left right) = None
+expr_node globals (Expr-F.NotEqual at left right) = None
+expr_node globals (Expr-F.And at operands) = None
+expr_node globals (Expr-F.Or at operands) = None
+expr_node globals (Expr-F.Implies at left right) = None
+expr_node globals (Expr-F.ImpliedBy at operands) = None
+expr_node globals (Expr-F.Equivalent at operands) = None
+expr_node globals (Expr-F.Choice at condition one other) = None
+
+abbrev pub bracket_node : Bracket-F (Option (List ExprNode)) (Option (List ExprNode)) → Option (List ExprNode)
+bracket_node bracket = None
+
+-- an expression over declared names, `true`, `false` and `!`
+unfoldable pub expr_of : List Named → Expr → Option (List ExprNode)
+expr_of globals = fold-Expr (Option (List ExprNode)) (Option (List ExprNode)) bracket_node (expr_node globals)
+
+-- an assert, which is the one of this number, or an assume
+abbrev pub stmt_node : List Named → ℕ → Stmt-F Else Stmt If → Option Cmd
+stmt_node globals number (Stmt-F.Label name) = None
+stmt_node globals number (Stmt-F.Assert at attributes condition) = option_map (AssertCmd number) (expr_of globals condition)
+stmt_node globals number (Stmt-F.Assume at attributes condition) = option_map AssumeCmd (expr_of globals condition)
+stmt_node globals number (Stmt-F.Havoc at attributes names) = None
+stmt_node globals number (Stmt-F.Goto at attributes labels) = None
+stmt_node globals number (Stmt-F.Return at attributes) = None
+stmt_node globals number (Stmt-F.Break at attributes label) = None
+stmt_node globals number (Stmt-F.Assign at targets values) = None
+stmt_node globals number (Stmt-F.Call at attributes outs procedure arguments) = None
+stmt_node globals number (Stmt-F.Stmt::If inner) = None
+stmt_node globals number (Stmt-F.While at attributes guard invariants body) = None
+
+abbrev pub stmt_of : List Named → ℕ → Stmt → Option Cmd
+stmt_of globals number stmt = stmt_node globals number (out-Stmt stmt)
 
 -- the number of the next assert behind a command
 abbrev pub next_number : ℕ → Cmd → ℕ
 next_number number (AssumeCmd expr) = number
 next_number number (AssertCmd own expr) = number + 1
 
--- the statements up to the brace that ends the file, behind those that are read; each takes a word, so there are no more of them than words
-abbrev pub stmts_of : (rounds : ℕ) → List Named → (number : ℕ) → List Cmd → List Word → Option (List Cmd)
-stmts_of zero globals number cmds words = None
-stmts_of (suc rounds) globals number cmds words =
-    if is_mark_at CloseBrace (slice_get words 0) then (if length words == 1 then Some cmds else None)
-    else option_and_then (λ (s : Cmd × List Word). stmts_of rounds globals (next_number number s.0) (cmds ++ s.0 ∷ []) s.1) (stmt_of globals number words)
+-- the commands behind those that are read, where the next assert has this number
+abbrev pub cmds_of : List Named → (number : ℕ) → List Cmd → List Stmt → Option (List Cmd)
+cmds_of globals number cmds [] = Some cmds
+cmds_of globals number cmds (stmt ∷ stmts) = option_and_then (λ cmd. cmds_of globals (next_number number cmd) (cmds ++ cmd ∷ []) stmts) (stmt_of globals number stmt)
 
--- the name of a declaration var name : bool ;
-abbrev pub declaration_of : List Word → Option (List ℕ)
-declaration_of words =
-    if is_mark_at Var (slice_get words 0) && is_mark_at Colon (slice_get words 2) && is_mark_at BoolMark (slice_get words 3) && is_mark_at Semicolon (slice_get words 4)
-    then name_of (slice_get words 1) else None
+-- ---- programs
 
--- the name of a heading procedure name ( ) {
-abbrev pub heading_of : List Word → Option (List ℕ)
-heading_of words =
-    if is_mark_at Procedure (slice_get words 0) && is_mark_at Open (slice_get words 2) && is_mark_at Close (slice_get words 3) && is_mark_at OpenBrace (slice_get words 4)
-    then name_of (slice_get words 1) else None
-
-abbrev pub named : List ℕ → Named
-named name = record { name = name; sort = bool_sort }
-
--- the declarations, behind those that are read, of different names, where so many more may come
-abbrev pub globals_of : (room : ℕ) → List Named → List Word → Option (List Named × List Word)
-globals_of zero globals words = if is_some (declaration_of words) then None else Some (globals, words)
-globals_of (suc room) globals words =
-    if is_some (declaration_of words)
-    then option_and_then (λ name. if is_some (place_of globals name) then None else globals_of room (globals ++ named name ∷ []) (drop 5 words)) (declaration_of words)
-    else Some (globals, words)
+abbrev pub is_empty : {A : Type 0} → List A → Bool
+is_empty [] = true
+is_empty (x ∷ xs) = false
 
 -- the program of these globals and this procedure
 abbrev pub with_procedure : List Named → List ℕ → List Cmd → Program
 with_procedure globals name cmds = record { globals = globals; procs = record { name = name; blocks = record { cmds = cmds; next = Return } ∷ [] } ∷ [] }
 
-abbrev pub procedure_of : List Named → List Word → Option Program
-procedure_of globals words =
-    option_and_then (λ name. option_map (with_procedure globals name) (stmts_of (length words) globals 1 [] (drop 5 words))) (heading_of words)
+-- a body without locals; an assert has a number below 2 to the 32
+abbrev pub body_of : List Named → List ℕ → Body → Option Program
+body_of globals name body =
+    if is_empty body.locals && nat_lt (length body.statements) (2 ^ 31)
+    then option_map (with_procedure globals name) (cmds_of globals 1 [] body.statements) else None
 
--- behind the declarations nothing, or one procedure
-abbrev pub rest_of : List Named × List Word → Option Program
-rest_of (globals, []) = Some (record { globals = globals; procs = [] })
-rest_of (globals, word ∷ words) = procedure_of globals (word ∷ words)
+-- without parameters and specs
+abbrev pub is_plain : ProcedureTree → Bool
+is_plain p = is_empty p.heads.ins && is_empty p.heads.outs && is_empty p.specs
 
--- the program of a source of at most 65536 bytes with at most 16 globals
-abbrev pub program_of : List ℕ → Option Program
-program_of bytes = if nat_le (length bytes) 65536 then option_and_then rest_of (globals_of 16 [] (words_of bytes)) else None
+-- a plain procedure with a body
+abbrev pub procedure_of : List Named → ProcedureTree → Option Program
+procedure_of globals p = if is_plain p then option_and_then (body_of globals p.name.text) p.body else None
+
+-- behind the globals so far: more of them, and then at most one procedure
+abbrev pub rest_of : List Named → List Decl → Option Program
+rest_of globals [] = Some (record { globals = globals; procs = [] })
+rest_of globals (decls.Variables v ∷ rest) = option_and_then (λ more. rest_of more rest) (with_groups globals v.groups)
+rest_of globals (decls.Procedure p ∷ rest) = if is_empty rest then procedure_of globals p else None
+rest_of globals (decls.Synonym d ∷ rest) = None
+rest_of globals (decls.Constants d ∷ rest) = None
+rest_of globals (decls.Function d ∷ rest) = None
+rest_of globals (decls.Axiom d ∷ rest) = None
+rest_of globals (decls.Implementation d ∷ rest) = None
+
+-- the program of a tree, where the tree has the form
+abbrev pub program_of : Ast → Option Program
+program_of ast = rest_of [] ast.decls

@@ -1,11 +1,10 @@
-//! Reads programs of one form: globals of sort bool, then at most one procedure of asserts and
-//! assumes. `words` cuts the bytes into words, `grammar` reads the program off them.
+//! The programs of one form: globals of sort bool, then at most one procedure of asserts and
+//! assumes. `form` makes the program of a tree that has the form.
 #![tactic(auto)]
 
-pub mod grammar;
-pub mod words;
+pub mod form;
 
-pub use grammar::program;
+pub use form::program;
 
 #[cfg(test)]
 mod tests;

@@ -1,3 +1,5 @@
+pub mod Determined
 pub mod ReadSteps
 pub mod Told
+pub mod TreeSteps
 pub mod WriteSteps

@@ -2,5 +2,6 @@ pub mod Asked
 pub mod Reading
 pub mod Texts
 pub mod Top
+pub mod Trees
 pub mod Words
 pub mod Writing

@@ -9,8 +9,14 @@ use Rattle.src_run.specs.declared.values.Value.TheVariants.{Atom as AtomValue}
 use Rattle.src_run.specs.declared.machine.Choice.{Choice}
 use Rattle.src_run.specs.declared.machine.Choice.TheVariants.{Go, Val}
 use Rattle.src_run.specs.Program.{Program}
+use Rattle.bpl_ast.specs.declared.word.Word.{Word}
+use Rattle.bpl_ast.specs.declared.word.Word.TheVariants as words
+use Rattle.bpl_parse.specs.declared.fault.ParseKind.{ParseKind}
+use Rattle.bpl_parse.specs.declared.fault.ParseKind.TheVariants.{Unexpected, EndTooSoon, TooDeep, LeftOut}
+use Rattle.bpl_tok.specs.declared.token.LexKind.{LexKind}
+use Rattle.bpl_tok.specs.declared.token.LexKind.TheVariants.{BadByte, OpenComment, OpenString, LiteralTooWide}
 use Rattle.hydra_top.specs.declared.outcome.Refusal.{Refusal}
-use Rattle.hydra_top.specs.declared.outcome.Refusal.TheVariants.{NotBuilt as NotBuiltPart, NoEntry}
+use Rattle.hydra_top.specs.declared.outcome.Refusal.TheVariants.{NotBuilt as NotBuiltPart, TooLong, Lex, Parse, NoEntry}
 use Rattle.hydra_top.specs.declared.outcome.Outcome.{Outcome}
 use Rattle.hydra_top.specs.declared.outcome.Outcome.TheVariants.{Safe, Bug, Refused, ReadFault, WriteFault, NoMemory}
 
@@ -48,8 +54,50 @@ abbrev pub bug_text : Option Program → List Choice → ℕ → ℕ → List �
 bug_text None choices proc assert = []
 bug_text (Some prog) choices proc assert = trace_text prog choices proc assert
 
+-- what no program has
+abbrev pub left_out : Word → List ℕ
+left_out words.Integer = codes "integer"
+left_out words.Real = codes "real"
+left_out words.Arithmetic = codes "arithmetic"
+left_out words.Order = codes "order"
+left_out words.Polymorphism = codes "polymorphism"
+left_out words.TypeConstructor = codes "type constructor"
+left_out words.SeveralIndexes = codes "several indexes"
+left_out words.Quantifier = codes "quantifier"
+left_out words.Lambda = codes "lambda"
+left_out words.Where = codes "where"
+left_out words.Extends = codes "extends"
+left_out words.Concurrency = codes "concurrency"
+left_out words.Contract = codes "contract"
+left_out words.Old = codes "old"
+left_out words.WideType = codes "wide type"
+left_out words.MapOfMap = codes "map of map"
+left_out words.UniqueMap = codes "unique map"
+left_out words.MapEquality = codes "map equality"
+left_out words.Uninterpreted = codes "uninterpreted"
+left_out words.NoBody = codes "no body"
+
+abbrev pub lex_words : LexKind → List ℕ
+lex_words BadByte = codes "bad byte"
+lex_words OpenComment = codes "open comment"
+lex_words OpenString = codes "open string"
+lex_words LiteralTooWide = codes "literal too wide"
+
+abbrev pub parse_words : ParseKind → List ℕ
+parse_words Unexpected = codes "unexpected"
+parse_words EndTooSoon = codes "end too soon"
+parse_words TooDeep = codes "too deep"
+parse_words (LeftOut what) = codes "left out " ++ left_out what
+
+-- a fault of a file's text: the part that found it, the offset of the byte, and the words of its kind
+abbrev pub fault_line : List ℕ → ℕ → List ℕ → List ℕ
+fault_line part at kind = line (codes "refused: " ++ part ++ codes " " ++ decimal at ++ codes " " ++ kind)
+
 abbrev pub refusal_text : Refusal → List ℕ
 refusal_text (NotBuiltPart part) = line (codes "refused: not built")
+refusal_text TooLong = line (codes "refused: too long")
+refusal_text (Lex fault) = fault_line (codes "lex") fault.at (lex_words fault.kind)
+refusal_text (Parse fault) = fault_line (codes "parse") fault.at (parse_words fault.kind)
 refusal_text (NoEntry name) = line (codes "refused: no entry " ++ name)
 
 -- what is printed for an outcome about a program

@@ -1,6 +1,7 @@
 -- What the program promises of its outcome.
-use Rattle.std.specs.Prelude.{◌≡◌, ◌≢◌, ℕ, List, [], ◌∷◌, ◌++◌, ◌⊎◌, Option, None, Some, IsSome, ⊤}
+use Rattle.std.specs.Prelude.{◌≡◌, ◌≢◌, ℕ, List, [], ◌∷◌, ◌++◌, ◌⊎◌, Option, None, Some, IsSome, Result, Ok, Err, ⊤}
 use Rattle.std.specs.Io.KnownBytes.{Appends}
+use Rattle.bpl_ast.specs.declared.decl.Ast.{Ast}
 use Rattle.src_run.specs.declared.machine.Status.TheVariants.{Failed}
 use Rattle.src_run.specs.Program.{Program}
 use Rattle.src_run.specs.Shape.{number_of}
@@ -8,11 +9,13 @@ use Rattle.src_run.specs.Machine.{NoneFails, status_of}
 use Rattle.bool_form.specs.Form.{program_of}
 use Rattle.hy_outside.specs.Outside.{OpensTo, Rose}
 use Rattle.hydra_top.specs.declared.outcome.NotBuilt.TheVariants.{Words, Source}
+use Rattle.hydra_top.specs.declared.outcome.Refusal.{Refusal}
 use Rattle.hydra_top.specs.declared.outcome.Refusal.TheVariants.{NotBuilt as NotBuiltPart, NoEntry}
 use Rattle.hydra_top.specs.declared.outcome.Outcome.{Outcome}
 use Rattle.hydra_top.specs.declared.outcome.Outcome.TheVariants.{Safe, Bug, Refused, ReadFault, WriteFault, NoMemory}
 use Rattle.hydra_top.specs.Texts.{text_of}
-use Rattle.hydra_top.specs.Words.{Task, task_of}
+use Rattle.hydra_top.specs.Trees.{IsReadAs}
+use Rattle.hydra_top.specs.Words.{Job, solo, Task, task_of}
 use Rattle.hydra_top.specs.Writing.{AppendsFront}
 
 -- the verdict on the runs of an entry within a bound: Safe where none fails, Bug with a failing one
@@ -25,22 +28,45 @@ IsVerdict prog entry bound WriteFault = ⊥
 IsVerdict prog entry bound NoMemory = ⊥
 
 -- where no procedure has the name of the entry, it is refused by that name
-abbrev pub IsEntered : Program → Task → Option ℕ → Outcome → Type 0
-IsEntered prog task None outcome = outcome ≡ Refused (NoEntry task.entry)
-IsEntered prog task (Some entry) outcome = IsVerdict prog entry task.bound outcome
+abbrev pub IsEntered : Program → (name : List ℕ) (bound : ℕ) → Option ℕ → Outcome → Type 0
+IsEntered prog name bound None outcome = outcome ≡ Refused (NoEntry name)
+IsEntered prog name bound (Some entry) outcome = IsVerdict prog entry bound outcome
 
--- where the file has not the form, it is refused
-abbrev pub IsFormed : Task → Option Program → Outcome → Type 0
-IsFormed task None outcome = outcome ≡ Refused (NotBuiltPart Source)
-IsFormed task (Some prog) outcome = IsEntered prog task (number_of prog task.entry) outcome
+-- where the tree has not the form, it is refused
+abbrev pub IsFormed : (name : List ℕ) (bound : ℕ) → Option Program → Outcome → Type 0
+IsFormed name bound None outcome = outcome ≡ Refused (NotBuiltPart Source)
+IsFormed name bound (Some prog) outcome = IsEntered prog name bound (number_of prog name) outcome
+
+-- the outcome of a job on a tree
+abbrev pub IsDone : Job → Ast → Outcome → Type 0
+IsDone (solo name bound) tree outcome = IsFormed name bound (program_of tree) outcome
+
+-- where the file is refused before it has a tree, that is the outcome
+abbrev pub IsRead : Job → Result Ast Refusal → Outcome → Type 0
+IsRead job (Ok tree) outcome = IsDone job tree outcome
+IsRead job (Err refusal) outcome = outcome ≡ Refused refusal
+
+-- the program of what a file is read as, if it has one
+abbrev pub program_in : Result Ast Refusal → Option Program
+program_in (Ok tree) = program_of tree
+program_in (Err refusal) = None
 
 -- the outcome for the file that the task names, and its program, if it has the form. Where the shelf tells its files it is
 -- the file of that name, and else it is some bytes.
 pub record IsJudged (files : Option (List (List ℕ × List ℕ))) (task : Task) (prog : Option Program) (outcome : Outcome) : Type 0 where
   pub bytes : List ℕ
   pub file : OpensTo files task.file (Some bytes)
-  pub form : prog ≡ program_of bytes
-  pub judged : IsFormed task prog outcome
+  pub tree : Result Ast Refusal
+  pub reads : IsReadAs bytes tree
+  pub form : prog ≡ program_in tree
+  pub judged : IsRead task.job tree outcome
+
+-- an outcome of a job on a file of these bytes, and its text
+pub record IsAnswerFor (job : Job) (bytes : List ℕ) (outcome : Outcome) (text : List ℕ) : Type 0 where
+  pub tree : Result Ast Refusal
+  pub reads : IsReadAs bytes tree
+  pub judged : IsRead job tree outcome
+  pub text_is : text ≡ text_of (program_in tree) outcome
 
 -- the outcome for the words, where no fault came and memory sufficed: words that are not of the form are refused
 abbrev pub IsRight : Option (List (List ℕ × List ℕ)) → Option Task → Option Program → Outcome → Type 0

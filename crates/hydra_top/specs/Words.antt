@@ -4,11 +4,14 @@ use Rattle.std.specs.Str.{bytes_eq}
 use Rattle.hy_text.specs.declared.number.NumFault.{NumFault}
 use Rattle.hy_text.specs.Number.{number_of}
 
--- what is asked: a search of the runs of a procedure of a file, within a bound
+-- what is to be done with the program of a file: the runs of a procedure, by its name, are searched within a bound
+pub data Job : Type 0 where
+  solo : (entry : List ℕ) (bound : ℕ) → Job
+
+-- what is asked: a job on the program of a file
 pub record Task : Type 0 where
   pub file : List ℕ
-  pub entry : List ℕ
-  pub bound : ℕ
+  pub job : Job
 
 abbrev pub is_bound : ℕ → Bool
 is_bound n = nat_le 1 n && nat_le n 1000
@@ -20,7 +23,7 @@ bound_in (Err fault) = None
 
 abbrev pub bounded : List ℕ → List ℕ → Option ℕ → Option Task
 bounded file entry None = None
-bounded file entry (Some bound) = Some (record { file = file; entry = entry; bound = bound })
+bounded file entry (Some bound) = Some (record { file = file; job = solo entry bound })
 
 -- the words are `solo`, a file, an entry and the digits of a bound; leading zeros are read
 abbrev pub task_of : List (List ℕ) → Option Task

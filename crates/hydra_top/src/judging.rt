@@ -1,19 +1,22 @@
 //! The outcome for what was read of a file, with the text that is printed for it.
 
-ghost use Rattle.std.specs.Prelude.{◌≡◌, ◌<◌, ◌≤◌, IfOk, Some, length, codes, ◌++◌};
+ghost use Rattle.std.specs.Prelude.{◌≡◌, ◌<◌, ◌≤◌, IfOk, List, ℕ, Some, length};
 ghost use Rattle.src_run.specs.Shape.{number_of};
 ghost use Rattle.bool_form.specs.Form.{program_of};
-ghost use Rattle.hydra_top.specs.Asked.{asked};
-ghost use Rattle.hydra_top.specs.Reading.{program_in};
-ghost use Rattle.hydra_top.specs.Texts.{line, text_of};
-ghost use Rattle.hydra_top.specs.Top.{IsEntered, IsFormed, IsVerdict};
+ghost use Rattle.hydra_top.specs.Asked.{HasBound, asked_job};
+ghost use Rattle.hydra_top.specs.Reading.{IsSource};
+ghost use Rattle.hydra_top.specs.Texts.{refusal_text, text_of};
+ghost use Rattle.hydra_top.specs.Top.{IsAnswerFor, IsDone, IsEntered, IsFormed, IsVerdict};
 
 use crate::outcome::{NotBuilt, Outcome, Refusal};
 use crate::reading::Source;
-use crate::text::{no_entry, trace};
-use crate::words::Task;
+use crate::refusal::refusal_line;
+use crate::text::trace;
+use crate::trees::read_tree;
+use crate::words::Job;
 use bool_form::program;
-use hy_text::Bytes;
+use bpl_ast::Ast;
+use hy_text::{Bytes, Or, Text};
 use src_run::prog::Prog;
 use src_run::search::search;
 use std::alloc::{AllocError, Global};
@@ -25,58 +28,70 @@ pub struct Answer {
     pub text: Bytes,
 }
 
-/// The answer for what was read: a file that has not the form is refused, then an entry that is
-/// not there, and then the runs are searched.
-pub fn judged(alloc: Global, task: &Task, source: &Source) -> Result<Answer, AllocError>
-    requires bound { (1 ≤ task.now.bound) × (task.now.bound ≤ 1000) }
-    ensures outcome { IfOk result (λ a. IsFormed (asked task.now) (program_in source.now) a.outcome) }
-    ensures text { IfOk result (λ a. a.text ≡ text_of (program_in source.now) a.outcome) }
+/// The answer for what was read: the file is refused where it has no tree, and else the job is
+/// done.
+pub fn judged(alloc: Global, job: &Job, source: &Source) -> Result<Answer, AllocError>
+    requires bound { HasBound job.now }
+    ensures { (bytes : List ℕ) → IsSource bytes source.now → IfOk result (λ a. IsAnswerFor (asked_job job.now) bytes a.outcome a.text) }
 {
-    match source {
-        Source::Whole(bytes) => formed(alloc, task, bytes.as_slice()),
-        Source::TooLong => refused_source(alloc),
+    match read_tree(alloc, source) {
+        Ok(tree) => done(alloc, job, &tree),
+        Err(Or::Fault(refusal)) => refused(alloc, refusal),
+        Err(Or::NoMemory) => Err(AllocError),
     }
 }
 
-// A file that has not the form.
-fn refused_source(alloc: Global) -> Result<Answer, AllocError>
-    ensures outcome { IfOk result (λ a. a.outcome ≡ Outcome.Refused (Refusal.NotBuilt NotBuilt.Source)) }
-    ensures text { IfOk result (λ a. a.text ≡ line (codes "refused: not built")) }
+/// The answer that refuses the input.
+pub fn refused(alloc: Global, refusal: Refusal) -> Result<Answer, AllocError>
+    ensures outcome { IfOk result (λ a. a.outcome ≡ Outcome.Refused refusal) }
+    ensures text { IfOk result (λ a. a.text ≡ refusal_text refusal) }
 {
-    let text = Bytes::from_slice(alloc, b"refused: not built\n")?;
+    let text = refusal_line(alloc, &refusal)?;
     Ok(Answer {
-        outcome: Outcome::Refused(Refusal::NotBuilt {
-            part: NotBuilt::Source,
-        }),
+        outcome: Outcome::Refused(refusal),
         text,
     })
 }
 
-fn formed(alloc: Global, task: &Task, bytes: &[u8]) -> Result<Answer, AllocError>
-    requires bound { (1 ≤ task.now.bound) × (task.now.bound ≤ 1000) }
-    ensures outcome { IfOk result (λ a. IsFormed (asked task.now) (program_of bytes.now) a.outcome) }
-    ensures text { IfOk result (λ a. a.text ≡ text_of (program_of bytes.now) a.outcome) }
+// Does the job on a tree.
+fn done(alloc: Global, job: &Job, tree: &Ast) -> Result<Answer, AllocError>
+    requires bound { HasBound job.now }
+    ensures outcome { IfOk result (λ a. IsDone (asked_job job.now) tree.now a.outcome) }
+    ensures text { IfOk result (λ a. a.text ≡ text_of (program_of tree.now) a.outcome) }
 {
-    match program(alloc, bytes)? {
-        None => refused_source(alloc),
-        Some(prog) => entered(alloc, task, &prog),
+    match job {
+        Job::Solo { entry, bound } => formed(alloc, *entry, *bound, tree),
     }
 }
 
-fn entered(alloc: Global, task: &Task, prog: &Prog) -> Result<Answer, AllocError>
-    requires bound { (1 ≤ task.now.bound) × (task.now.bound ≤ 1000) }
-    ensures outcome { IfOk result (λ a. IsEntered prog.now (asked task.now) (number_of prog.now task.now.entry.now) a.outcome) }
+// A tree that has not the form is refused, then an entry that is not there, and then the runs are
+// searched.
+fn formed(alloc: Global, name: &Text, bound: u32, tree: &Ast) -> Result<Answer, AllocError>
+    requires bound { (1 ≤ bound) × (bound ≤ 1000) }
+    ensures outcome { IfOk result (λ a. IsFormed name.now bound (program_of tree.now) a.outcome) }
+    ensures text { IfOk result (λ a. a.text ≡ text_of (program_of tree.now) a.outcome) }
+{
+    match program(alloc, tree)? {
+        None => refused(
+            alloc,
+            Refusal::NotBuilt {
+                part: NotBuilt::Source,
+            },
+        ),
+        Some(prog) => entered(alloc, name, bound, &prog),
+    }
+}
+
+fn entered(alloc: Global, name: &Text, bound: u32, prog: &Prog) -> Result<Answer, AllocError>
+    requires bound { (1 ≤ bound) × (bound ≤ 1000) }
+    ensures outcome { IfOk result (λ a. IsEntered prog.now name.now bound (number_of prog.now name.now) a.outcome) }
     ensures text { IfOk result (λ a. a.text ≡ text_of (Some prog.now) a.outcome) }
 {
-    match prog.find(task.entry) {
-        Some(entry) => searched(alloc, prog, entry, task.bound),
+    match prog.find(name) {
+        Some(entry) => searched(alloc, prog, entry, bound),
         None => {
-            let text = no_entry(alloc, task.entry)?;
-            let name = task.entry.copy(alloc)?;
-            Ok(Answer {
-                outcome: Outcome::Refused(Refusal::NoEntry { name }),
-                text,
-            })
+            let name = name.copy(alloc)?;
+            refused(alloc, Refusal::NoEntry { name })
         }
     }
 }

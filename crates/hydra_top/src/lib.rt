@@ -3,13 +3,17 @@
 #![tactic(auto)]
 
 mod judging;
+mod laws;
 pub mod outcome;
 pub mod reading;
+pub mod refusal;
 pub mod text;
 pub mod top;
+pub mod trees;
 pub mod words;
 pub mod writing;
 
+pub use laws::reading_is_determined;
 pub use outcome::{NotBuilt, Outcome, Refusal, Report};
 pub use top::run_solo;
 

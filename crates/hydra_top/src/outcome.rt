@@ -3,6 +3,8 @@
 ghost use Rattle.std.specs.Prelude.{◌≡◌};
 ghost use Rattle.hydra_top.specs.Texts.{status_number};
 
+use bpl_parse::ParseFault;
+use bpl_tok::LexFault;
 use hy_text::Text;
 use sqlite_items::Items;
 use src_run::machine::Choice;
@@ -12,7 +14,7 @@ use src_run::machine::Choice;
 pub enum NotBuilt {
     /// The words are not `solo`, a file, an entry, and a bound from 1 to 1000 in digits.
     Words,
-    /// The file is not one block of asserts and assumes over bools, or has more than 65,536 bytes.
+    /// The program is not one block of asserts and assumes over bools.
     Source,
 }
 
@@ -21,6 +23,12 @@ pub enum NotBuilt {
 pub enum Refusal {
     /// It is not of the form.
     NotBuilt { part: NotBuilt },
+    /// The file has more than 16,777,216 bytes.
+    TooLong,
+    /// The bytes of the file are no tokens: the first fault.
+    Lex(LexFault),
+    /// The tokens of the file are no program: the first fault.
+    Parse(ParseFault),
     /// No procedure of the file has that name.
     NoEntry { name: Text },
 }

@@ -8,8 +8,11 @@ use hy_outside::{Shelf, ShelfFault};
 use hy_text::{Bytes, Text};
 use std::alloc::Global;
 
-/// The greatest number of bytes of a file of the form.
-pub const LIMIT: usize = 65536;
+/// The greatest number of bytes of a file.
+pub const LIMIT: usize = 16_777_216;
+
+// How many bytes are read at once.
+const PIECE: usize = 4096;
 
 /// What was read of a file.
 #[derive(Drop)]
@@ -29,10 +32,10 @@ pub enum ReadEnd {
     NoMemory,
 }
 
-/// Opens the file of that name and reads it to its end, or until more than `LIMIT` bytes were
-/// read. It takes the memory of what it has read.
+/// Opens the file of that name and reads it to its end, or until one byte more than `LIMIT` was
+/// read: no more is taken from the shelf. It takes the memory of what it has read.
 pub fn read_file<S: Shelf>(alloc: Global, shelf: &mut S, name: &Text) -> Result<Source, ReadEnd>
-    ensures file { IfOk result (λ source. ReadsFile (S.files shelf.old) name.now source) }
+    ensures file { IfOk result (λ source. ReadsFile (S.files shelf.old) name.now (S.left shelf.new) source) }
     ensures cause { ReadCause (S.faults shelf.old) (S.faults shelf.new) result }
     ensures opened { (S.opened shelf.new ≡ S.opened shelf.old) ⊎ (S.opened shelf.new ≡ S.opened shelf.old ++ name.now ∷ []) }
 {
@@ -45,14 +48,16 @@ pub fn read_file<S: Shelf>(alloc: Global, shelf: &mut S, name: &Text) -> Result<
 
 // Reads what is left of the open file.
 fn read_rest<S: Shelf>(alloc: Global, shelf: &mut S) -> Result<Source, ReadEnd>
-    ensures left { IfOk result (λ source. ReadsLeft (S.left shelf.old) source) }
+    ensures left { IfOk result (λ source. ReadsLeft (S.left shelf.old) (S.left shelf.new) source) }
     ensures cause { ReadCause (S.faults shelf.old) (S.faults shelf.new) result }
     ensures opened { S.opened shelf.new ≡ S.opened shelf.old }
 {
     let mut bytes = Bytes::new(alloc);
     while bytes.len() <= LIMIT {
-        let mut piece = [0u8; 512];
-        let Ok(count) = shelf.read(&mut piece) else {
+        let mut buffer = [0u8; PIECE];
+        let room = (LIMIT + 1 - bytes.len()).min(PIECE);
+        let piece = &mut buffer[..room];
+        let Ok(count) = shelf.read(piece) else {
             return Err(ReadEnd::Failed);
         };
         if count == 0 {

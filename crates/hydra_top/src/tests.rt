@@ -8,7 +8,14 @@ const ASSERTED: &[u8] = b"var b: bool;\nprocedure main() { assert b; }\n";
 
 const ASSUMED: &[u8] = b"var b: bool;\nprocedure main() { assume b; assert b; }\n";
 
+const GROUPED: &[u8] =
+    b"var {:x 1} a, b: bool, c: bool; // three\nprocedure {:p} main() { assume {:s} !a; assert /* a */ !(!(!a)); assert b; }";
+
 const FALSE: &[u8] = b"procedure main() { assert false; assume false; }\n";
+
+// An axiom in 201 pairs of parentheses.
+const DEEP: &[u8] =
+    b"axiom (((((((((((((((((((((((((((((((((((((((((((((((((((((((((((((((((((((((((((((((((((((((((((((((((((((((((((((((((((((((((((((((((((((((((((((((((((((((((((((((((((((((((((((((((((((((((((((((((((((((((true)))))))))))))))))))))))))))))))))))))))))))))))))))))))))))))))))))))))))))))))))))))))))))))))))))))))))))))))))))))))))))))))))))))))))))))))))))))))))))))))))))))))))))))))))))))))))))))))))))))))));";
 
 // Runs the words on a shelf with the one file `f`.
 fn run(
@@ -35,13 +42,20 @@ fn run(
 #[test]
 fn outcomes_are_printed(rt: HostRuntime) -> Result<(), Fail> {
     let missing: &[u8] = b"refused: no entry main\n";
-    let cases: [(&str, &[u8], u8, &[u8]); 6] = [
+    let cases: [(&str, &[u8], u8, &[u8]); 8] = [
         ("main", ASSERTED, 10, b"Bug\nv b false\nfails main 1\n"),
         ("main", ASSUMED, 0, b"Safe\n"),
+        (
+            "main",
+            GROUPED,
+            10,
+            b"Bug\nv a false\nv b false\nv c false\nfails main 2\n",
+        ),
         ("main", FALSE, 10, b"Bug\nfails main 1\n"),
         ("main", b"", 3, missing),
         ("p q", ASSUMED, 3, b"refused: no entry p q\n"),
-        ("main", b"var x: int;", 3, b"refused: not built\n"),
+        ("main", b"var b: bv8;", 3, b"refused: not built\n"),
+        ("main", b"procedure main();", 3, b"refused: not built\n"),
     ];
     let reads = [Turn::All, Turn::AtMost(1), Turn::AtMost(2)];
     let writes = [Turn::AtMost(2), Turn::AtMost(1)];
@@ -105,18 +119,32 @@ fn faults_are_told(rt: HostRuntime) -> Result<(), Fail> {
 }
 
 #[test]
-fn long_files_are_refused(rt: HostRuntime) -> Result<(), Fail> {
+fn faults_of_a_text_are_told(rt: HostRuntime) -> Result<(), Fail> {
     let words = ["solo", "f", "main", "1"];
-    let mut bytes = Bytes::from_slice(rt.alloc(), ASSUMED)?;
-    for _ in ASSUMED.len()..65536 {
-        bytes.push(b' ')?;
+    let cases: [(&[u8], &[u8]); 9] = [
+        (b"var x: int;", b"refused: parse 7 left out integer\n"),
+        (
+            b"axiom true && true || false;",
+            b"refused: parse 19 unexpected\n",
+        ),
+        (
+            b"axiom 7bv65 == 7bv65;",
+            b"refused: lex 6 literal too wide\n",
+        ),
+        (DEEP, b"refused: parse 206 too deep\n"),
+        (b"/* /* */", b"refused: lex 0 open comment\n"),
+        (b"axiom @;", b"refused: lex 6 bad byte\n"),
+        (b"axiom {:x \"abc", b"refused: lex 10 open string\n"),
+        (b"axiom true", b"refused: parse 10 end too soon\n"),
+        (
+            b"var m: [bool, bool]bool;",
+            b"refused: parse 12 left out several indexes\n",
+        ),
+    ];
+    for (bytes, printed) in cases {
+        let (ended, out) = run(rt.alloc(), &words, bytes, &[], 100, &[])?;
+        assert_eq!(rt; ended, 3);
+        assert_eq!(rt; out.held(), printed);
     }
-    let (ended, out) = run(rt.alloc(), &words, bytes.as_slice(), &[], 100, &[])?;
-    assert_eq!(rt; ended, 0);
-    assert_eq!(rt; out.held(), b"Safe\n".as_slice());
-    bytes.push(b' ')?;
-    let (ended, out) = run(rt.alloc(), &words, bytes.as_slice(), &[], 100, &[])?;
-    assert_eq!(rt; ended, 3);
-    assert_eq!(rt; out.held(), b"refused: not built\n".as_slice());
     Ok(())
 }

@@ -1,9 +1,9 @@
-//! The text of an outcome.
+//! The texts of traces.
 
 ghost use Rattle.std.specs.Prelude.{◌≡◌, ◌++◌, ◌∷◌, [], IfOk, OnOk, OnErr, codes, decimal};
 ghost use Rattle.hydra_top.specs.Texts.{choice_line, choice_lines, global_name, line, proc_name, trace_text, value_text};
 
-use hy_text::{Bytes, Text, put_u64};
+use hy_text::{Bytes, put_u64};
 use src_run::machine::Choice;
 use src_run::prog::Prog;
 use src_run::values::{Atom, Value};
@@ -97,7 +97,7 @@ fn global_name(prog: &Prog, at: usize) -> &[u8]
     ensures { result.now ≡ global_name prog.now at }
 {
     match prog.globals().get(at) {
-        Some(global) => global.name.as_bytes(),
+        Some(global) => global.name.as_slice(),
         None => &[],
     }
 }
@@ -106,17 +106,7 @@ fn proc_name(prog: &Prog, number: u32) -> &[u8]
     ensures { result.now ≡ proc_name prog.now number }
 {
     match prog.procs().get(number as usize) {
-        Some(proc) => proc.name.as_bytes(),
+        Some(proc) => proc.name.as_slice(),
         None => &[],
     }
-}
-
-/// The line that refuses an entry that is not there.
-pub fn no_entry(alloc: Global, name: &Text) -> Result<Bytes, AllocError>
-    ensures { IfOk result (λ t. t ≡ line (codes "refused: no entry " ++ name.now)) }
-{
-    let mut text = Bytes::from_slice(alloc, b"refused: no entry ")?;
-    text.append(name.as_bytes())?;
-    text.push(b'\n')?;
-    Ok(text)
 }

@@ -1,15 +1,15 @@
 //! The top call.
 
-ghost use Rattle.std.specs.Prelude.{◌≡◌, ◌≢◌, ◌<◌, ◌≤◌, IfOk, Some, codes, ◌++◌, ◌∷◌, []};
+ghost use Rattle.std.specs.Prelude.{◌≡◌, ◌≢◌, ◌<◌, IfOk, Some};
 ghost use Rattle.std.specs.Io.KnownBytes.{Appends};
 ghost use Rattle.hy_outside.specs.Outside.{Rose};
-ghost use Rattle.hydra_top.specs.Asked.{asked};
-ghost use Rattle.hydra_top.specs.Texts.{line, status_number};
+ghost use Rattle.hydra_top.specs.Asked.{HasBound, asked};
+ghost use Rattle.hydra_top.specs.Texts.{status_number};
 ghost use Rattle.hydra_top.specs.Words.{task_of};
 ghost use Rattle.hydra_top.specs.Top.{IsAnswer, MayMask, OpensOnly, Prints, PrintsFront, RightFor};
 ghost use Rattle.hydra_top.specs.Writing.{AppendsFront};
 
-use crate::judging::{Answer, judged};
+use crate::judging::{Answer, judged, refused};
 use crate::outcome::{NotBuilt, Outcome, Refusal, Report};
 use crate::reading::{ReadEnd, read_file};
 use crate::words::{Task, read_words};
@@ -58,31 +58,23 @@ fn decided<S: Shelf>(alloc: Global, words: &[Text], shelf: &mut S) -> Result<Ans
 {
     match read_words(words) {
         Some(task) => answered(alloc, &task, shelf),
-        None => refused_words(alloc),
+        None => refused(
+            alloc,
+            Refusal::NotBuilt {
+                part: NotBuilt::Words,
+            },
+        ),
     }
-}
-
-fn refused_words(alloc: Global) -> Result<Answer, AllocError>
-    ensures outcome { IfOk result (λ a. a.outcome ≡ Outcome.Refused (Refusal.NotBuilt NotBuilt.Words)) }
-    ensures text { IfOk result (λ a. a.text ≡ line (codes "refused: not built")) }
-{
-    let text = Bytes::from_slice(alloc, b"refused: not built\n")?;
-    Ok(Answer {
-        outcome: Outcome::Refused(Refusal::NotBuilt {
-            part: NotBuilt::Words,
-        }),
-        text,
-    })
 }
 
 // The answer for a task.
 fn answered<S: Shelf>(alloc: Global, task: &Task, shelf: &mut S) -> Result<Answer, AllocError>
-    requires bound { (1 ≤ task.now.bound) × (task.now.bound ≤ 1000) }
+    requires bound { HasBound task.now.job }
     ensures answer { IfOk result (λ a. IsAnswer (S.faults shelf.old) (S.faults shelf.new) (S.files shelf.old) (Some (asked task.now)) a.outcome a.text) }
     ensures opened { OpensOnly (Some (asked task.now)) (S.opened shelf.old) (S.opened shelf.new) }
 {
     match read_file(alloc, shelf, task.file) {
-        Ok(source) => judged(alloc, task, &source),
+        Ok(source) => judged(alloc, &task.job, &source),
         Err(ReadEnd::Failed) => {
             let text = Bytes::from_slice(alloc, b"fault: read\n")?;
             Ok(Answer {

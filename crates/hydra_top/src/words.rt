@@ -3,24 +3,29 @@
 ghost use Rattle.std.specs.Prelude.{◌≡◌, ◌≤◌, None, Some, IfSome, MatchOption};
 ghost use Rattle.hy_text.specs.Number.{number_of};
 ghost use Rattle.hydra_top.specs.Words.{bound_in, task_of};
-ghost use Rattle.hydra_top.specs.Asked.{asked};
+ghost use Rattle.hydra_top.specs.Asked.{HasBound, asked};
 
 use hy_text::{Text, read_u64};
 
-/// What is asked: a search of the runs of the procedure `entry` of the file `file` within `bound`,
-/// which is 1 to 1000.
+/// What is to be done with the program of a file.
+#[derive(Clone, Copy)]
+pub enum Job<'a> {
+    /// To search the runs of the procedure `entry` within `bound`, which is 1 to 1000.
+    Solo { entry: &'a Text, bound: u32 },
+}
+
+/// What is asked: a job on the program of the file of that name.
 #[derive(Clone, Copy)]
 pub struct Task<'a> {
     pub file: &'a Text,
-    pub entry: &'a Text,
-    pub bound: u32,
+    pub job: Job<'a>,
 }
 
 /// The task of the words, or None where they are not of the form: `solo`, a file, an entry, and a
 /// bound from 1 to 1000 in digits. File and entry are any text.
 pub fn read_words<'a>(words: &'a [Text]) -> Option<Task<'a>>
     ensures task { MatchOption result (task_of words.now ≡ None) (λ t. task_of words.now ≡ Some (asked t)) }
-    ensures bound { IfSome result (λ t. (1 ≤ t.bound) × (t.bound ≤ 1000)) }
+    ensures bound { IfSome result (λ t. HasBound t.job) }
 {
     let [job, file, entry, digits] = words else {
         return None;
@@ -29,7 +34,8 @@ pub fn read_words<'a>(words: &'a [Text]) -> Option<Task<'a>>
         return None;
     }
     let bound = read_bound(digits.as_bytes())?;
-    Some(Task { file, entry, bound })
+    let job = Job::Solo { entry, bound };
+    Some(Task { file, job })
 }
 
 // The bound that the digits write.

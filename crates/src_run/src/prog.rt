@@ -8,10 +8,10 @@ use hy_text::Text;
 use sqlite_items::Items;
 use std::marker::Model;
 
-/// A declared variable.
+/// A declared variable: the bytes of its name, and its sort.
 #[derive(Drop)]
 pub struct Named {
-    pub name: Text,
+    pub name: Items<u8>,
     pub sort: Sort,
 }
 
@@ -35,10 +35,10 @@ pub struct SrcBlock {
     pub next: Next,
 }
 
-/// A procedure with a body. Its run begins at block 0.
+/// A procedure with a body, by the bytes of its name. Its run begins at block 0.
 #[derive(Drop)]
 pub struct SrcProc {
-    pub name: Text,
+    pub name: Items<u8>,
     pub blocks: Items<SrcBlock>,
 }
 
@@ -86,7 +86,7 @@ impl Prog {
         ensures within { IfSome result (λ p. p < length self.now.procs) }
     {
         for (index, proc) in self.procs.as_slice().iter().enumerate() {
-            if proc.name.as_str() == name.as_str() {
+            if proc.name.as_slice() == name.as_bytes() {
                 return Some(index as u32);
             }
         }

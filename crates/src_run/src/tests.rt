@@ -22,7 +22,7 @@ const TRUE: Choice = Choice::Val(Value::Atom(Atom::Bool(true)));
 fn main_of(alloc: Global, cmds: Items<Cmd>) -> Result<Prog, AllocError>
     requires { IsTrue (list_all (cmd_is_declared 1) cmds) }
 {
-    let name = Text::from_str(alloc, "b")?;
+    let name = Items::from_slice(alloc, b"b")?;
     let mut globals = Items::new(alloc);
     globals.push(Named { name, sort: BOOL })?;
     let block = SrcBlock {
@@ -31,7 +31,7 @@ fn main_of(alloc: Global, cmds: Items<Cmd>) -> Result<Prog, AllocError>
     };
     let mut blocks = Items::new(alloc);
     blocks.push(block)?;
-    let name = Text::from_str(alloc, "main")?;
+    let name = Items::from_slice(alloc, b"main")?;
     let mut procs = Items::new(alloc);
     procs.push(SrcProc { name, blocks })?;
     Ok(Prog { globals, procs })

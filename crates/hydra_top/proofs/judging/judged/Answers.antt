@@ -1,17 +1,12 @@
-use Rattle.std.proofs.Common.{◌≡◌, subst}
-use Rattle.std.specs.Prelude.{Option, IfOk}
-use Rattle.src_run.specs.Program.{Program}
-use Rattle.hydra_top.specs.declared.judging.Answer.{Answer}
-use Rattle.hydra_top.specs.Asked.{asked}
-use Rattle.hydra_top.specs.Texts.{text_of}
-use Rattle.hydra_top.specs.Top.{IsFormed}
-use Rattle.hydra_top.proofs.Told.{whole_program}
+use Rattle.hydra_top.specs.Asked.{asked_job}
+use Rattle.hydra_top.proofs.Told.{answer_done, answer_refused}
 use Rattle.hydra_top.proofs.judging.judged.Goals as goal
 
-pub returns-in-Whole-clause-outcome : goal.returns-in-Whole-clause-outcome
-returns-in-Whole-clause-outcome c =
-    subst (λ (p : Option Program). IfOk c.formed.result (λ (a : Answer). IsFormed (asked c.args.task.now) p a.outcome)) (whole_program c.args.source.now c.in-Whole.bytes c.as_slice.result.now c.in-Whole.is c.as_slice.ensures) c.formed.ensures.outcome
+pub returns-in-Ok : goal.returns-in-Ok
+returns-in-Ok c = λ bytes is.
+    answer_done (asked_job c.args.job.now) bytes c.in-Ok.tree c.done.result (c.in-Ok.ensures bytes is) c.done.ensures.outcome c.done.ensures.text
 
-pub returns-in-Whole-clause-text : goal.returns-in-Whole-clause-text
-returns-in-Whole-clause-text c =
-    subst (λ (p : Option Program). IfOk c.formed.result (λ (a : Answer). a.text ≡ text_of p a.outcome)) (whole_program c.args.source.now c.in-Whole.bytes c.as_slice.result.now c.in-Whole.is c.as_slice.ensures) c.formed.ensures.text
+pub returns-in-Err-Fault : goal.returns-in-Err-Fault
+returns-in-Err-Fault c = λ bytes is.
+    let told = rw c.in-Err-Fault.field-0-is at c.in-Err-Fault.ensures in
+    answer_refused (asked_job c.args.job.now) bytes c.in-Err-Fault.refusal c.refused.result (told bytes is) c.refused.ensures.outcome c.refused.ensures.text

@@ -1,13 +1,15 @@
-use Rattle.std.proofs.Common.{◌≡◌, ◌-◌, length}
+use Rattle.std.proofs.Common.{◌≡◌, ◌≤◌, ◌+◌, ◌-◌, length}
 use Rattle.std.specs.Io.KnownBytes.{Consumes}
+use Rattle.hydra_top.specs.Reading.{limit}
 use Rattle.hydra_top.proofs.reading.read_rest.Given as goal
 
-abbrev pub invariant-loop-piece : goal.invariant-loop-piece
-invariant-loop-piece g l = record {
+abbrev pub invariant-loop-buffer : goal.invariant-loop-buffer
+invariant-loop-buffer g l = record {
   consumed : Consumes (g.S.Shelf.left l.fn.shelf) (g.S.Shelf.left l.shelf) l.bytes;
+  few : length l.bytes ≤ limit + 1;
   faults : g.S.Shelf.faults l.shelf ≡ g.S.Shelf.faults l.fn.shelf;
   opened : g.S.Shelf.opened l.shelf ≡ g.S.Shelf.opened l.fn.shelf;
 }
 
-abbrev pub decreases-loop-piece : goal.decreases-loop-piece
-decreases-loop-piece g l = 65537 - length l.bytes
+abbrev pub decreases-loop-buffer : goal.decreases-loop-buffer
+decreases-loop-buffer g l = 16777217 - length l.bytes

@@ -1,0 +1,23 @@
+-- What bytes are read as, step by step.
+use Rattle.std.proofs.Common.{◌≡◌, ℕ, ◌≤◌, List, length, sym, subst}
+use Rattle.std.specs.Prelude.{Result, Ok, Err}
+use Rattle.bpl_ast.specs.declared.decl.Ast.{Ast}
+use Rattle.bpl_parse.specs.Promises.{IsFirst, Reads}
+use Rattle.bpl_parse.specs.declared.fault.ParseFault.{ParseFault}
+use Rattle.bpl_tok.specs.Lexed.{tokens_of}
+use Rattle.bpl_tok.specs.declared.token.Token.{Token}
+use Rattle.hy_text.specs.declared.refusal.Or.{Or}
+use Rattle.hydra_top.specs.declared.outcome.Refusal.{Refusal}
+use Rattle.hydra_top.specs.declared.outcome.Refusal.TheVariants.{Parse}
+use Rattle.hydra_top.specs.Reading.{limit}
+use Rattle.hydra_top.specs.Trees.{IsReadAs, IsTreeOf}
+
+pub tree_is : (bytes : List ℕ) (tokens : List Token) (tree : Ast) → tokens_of bytes ≡ Ok tokens → Reads bytes tokens tree → length bytes ≤ limit → IsReadAs bytes (Ok tree)
+tree_is bytes tokens tree cut reads short = (short, record { tokens = tokens; cut = cut; reads = reads })
+
+pub fault_is : (bytes : List ℕ) (tokens : List Token) (fault : ParseFault) → tokens_of bytes ≡ Ok tokens → IsFirst bytes tokens fault → length bytes ≤ limit → IsReadAs bytes (Err (Parse fault))
+fault_is bytes tokens fault cut first short = (short, record { tokens = tokens; cut = cut; first = first })
+
+-- the bytes that were read are the file's
+pub of_source : (bytes read : List ℕ) (result : Result Ast (Or Refusal)) → read ≡ bytes → length bytes ≤ limit → (length read ≤ limit → IsTreeOf read result) → IsTreeOf bytes result
+of_source bytes read result is short reads = subst (λ b. IsTreeOf b result) is (reads (subst (λ b. length b ≤ limit) (sym is) short))

@@ -1,0 +1,109 @@
+//! The texts of refusals.
+
+ghost use Rattle.std.specs.Prelude.{◌≡◌, ◌++◌, IfOk, codes};
+ghost use Rattle.hydra_top.specs.Texts.{fault_line, left_out, lex_words, line, parse_words, refusal_text};
+
+use crate::outcome::Refusal;
+use bpl_ast::Word;
+use bpl_parse::ParseKind;
+use bpl_tok::LexKind;
+use hy_text::{Bytes, Text, put_u64};
+use std::alloc::{AllocError, Global};
+
+/// The line that refuses the input.
+pub fn refusal_line(alloc: Global, refusal: &Refusal) -> Result<Bytes, AllocError>
+    ensures { IfOk result (λ t. t ≡ refusal_text refusal.now) }
+{
+    match refusal {
+        Refusal::NotBuilt { part: _ } => Bytes::from_slice(alloc, b"refused: not built\n"),
+        Refusal::TooLong => Bytes::from_slice(alloc, b"refused: too long\n"),
+        Refusal::Lex(fault) => fault_text(alloc, b"lex", fault.at, lex_text(fault.kind)),
+        Refusal::Parse(fault) => parse_line(alloc, fault.at, fault.kind),
+        Refusal::NoEntry { name } => no_entry(alloc, name),
+    }
+}
+
+// The line of a fault of the grammar.
+fn parse_line(alloc: Global, at: usize, kind: ParseKind) -> Result<Bytes, AllocError>
+    ensures { IfOk result (λ t. t ≡ fault_line (codes "parse") at (parse_words kind)) }
+{
+    let words = parse_text(alloc, kind)?;
+    fault_text(alloc, b"parse", at, words.as_slice())
+}
+
+// The line of a fault of a part of the reader, at an offset, in the words of its kind.
+fn fault_text(alloc: Global, part: &[u8], at: usize, kind: &[u8]) -> Result<Bytes, AllocError>
+    ensures { IfOk result (λ t. t ≡ fault_line part.now at kind.now) }
+{
+    let mut text = Bytes::from_slice(alloc, b"refused: ")?;
+    text.append(part)?;
+    text.append(b" ")?;
+    put_u64(&mut text, at as u64)?;
+    text.append(b" ")?;
+    text.append(kind)?;
+    text.push(b'\n')?;
+    Ok(text)
+}
+
+fn lex_text(kind: LexKind) -> &'static [u8]
+    ensures { result.now ≡ lex_words kind }
+{
+    match kind {
+        LexKind::BadByte => b"bad byte",
+        LexKind::OpenComment => b"open comment",
+        LexKind::OpenString => b"open string",
+        LexKind::LiteralTooWide => b"literal too wide",
+    }
+}
+
+fn parse_text(alloc: Global, kind: ParseKind) -> Result<Bytes, AllocError>
+    ensures { IfOk result (λ t. t ≡ parse_words kind) }
+{
+    match kind {
+        ParseKind::Unexpected => Bytes::from_slice(alloc, b"unexpected"),
+        ParseKind::EndTooSoon => Bytes::from_slice(alloc, b"end too soon"),
+        ParseKind::TooDeep => Bytes::from_slice(alloc, b"too deep"),
+        ParseKind::LeftOut { what } => {
+            let mut text = Bytes::from_slice(alloc, b"left out ")?;
+            text.append(left_out_text(what))?;
+            Ok(text)
+        }
+    }
+}
+
+fn left_out_text(what: Word) -> &'static [u8]
+    ensures { result.now ≡ left_out what }
+{
+    match what {
+        Word::Integer => b"integer",
+        Word::Real => b"real",
+        Word::Arithmetic => b"arithmetic",
+        Word::Order => b"order",
+        Word::Polymorphism => b"polymorphism",
+        Word::TypeConstructor => b"type constructor",
+        Word::SeveralIndexes => b"several indexes",
+        Word::Quantifier => b"quantifier",
+        Word::Lambda => b"lambda",
+        Word::Where => b"where",
+        Word::Extends => b"extends",
+        Word::Concurrency => b"concurrency",
+        Word::Contract => b"contract",
+        Word::Old => b"old",
+        Word::WideType => b"wide type",
+        Word::MapOfMap => b"map of map",
+        Word::UniqueMap => b"unique map",
+        Word::MapEquality => b"map equality",
+        Word::Uninterpreted => b"uninterpreted",
+        Word::NoBody => b"no body",
+    }
+}
+
+// The line that refuses an entry that is not there.
+fn no_entry(alloc: Global, name: &Text) -> Result<Bytes, AllocError>
+    ensures { IfOk result (λ t. t ≡ line (codes "refused: no entry " ++ name.now)) }
+{
+    let mut text = Bytes::from_slice(alloc, b"refused: no entry ")?;
+    text.append(name.as_bytes())?;
+    text.push(b'\n')?;
+    Ok(text)
+}
