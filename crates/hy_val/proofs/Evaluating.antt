@@ -1,25 +1,22 @@
 -- What evaluation keeps while it goes over the nodes.
-use Rattle.std.proofs.Common.{◌≡◌, ℕ, zero, suc, ◌-◌, ◌+◌, ◌<◌, ◌≤◌, Bool, true, false, not, ◌&&◌, List, [], ◌∷◌, ◌++◌, length, map, drop, get_or, arith, sym, ◌∙◌, ap, refl, subst, length-append}
-use Rattle.std.specs.Prelude.{Option, None, Some, if◌then◌else◌, slice_get, IsTrue, IsSome, is_some}
+use Rattle.std.proofs.Common.{◌≡◌, ℕ, zero, suc, ◌-◌, ◌+◌, ◌<◌, Bool, true, false, ◌&&◌, List, [], ◌∷◌, ◌++◌, length, map, drop, get_or, arith, sym, ◌∙◌, ap, refl, subst, length-append}
+use Rattle.std.specs.Prelude.{Option, None, Some, if◌then◌else◌, slice_get, IsTrue, IsSome}
 use Rattle.std.specs.Option.{option_map, option_and_then}
 use Rattle.std.proofs.lemmas.Option.{slice_get-map}
 use Rattle.std.proofs.lemmas.List.{map-append}
 use Rattle.std.proofs.Math.Seq.{drop-cons}
-use Rattle.hy_val.specs.Sorts.{scalar_of, is_scalar, same_scalar, has_scalar}
+use Rattle.hy_val.specs.Sorts.{scalar_of, same_scalar, has_scalar}
 use Rattle.hy_val.specs.Table.{Table}
-use Rattle.hy_val.specs.Maps.{is_map, select, stored}
-use Rattle.hy_val.specs.Operators.{sort_of_unary, sort_of_binary, apply1, apply}
-use Rattle.hy_val.specs.Values.{sort_of, has_sort, default, at, atom_of, table_of, is_on, unary_value, binary_value, pick, select_value, store_value}
-use Rattle.hy_val.specs.NodeSorts.{is_sort, as_sort, as_scalar, unary_sort, binary_sort, if_sort, entry_sort, select_sort, written_sort, store_sort}
-use Rattle.hy_val.specs.Exprs.{sort_of_node, sorts_onto, is_empty, is_expr, node_by, values_by, eval_by, variable, read, eval, is_there, node_reads, reads}
+use Rattle.hy_val.specs.Operators.{sort_of_unary, sort_of_binary}
+use Rattle.hy_val.specs.Values.{sort_of, default, at, atom_of}
+use Rattle.hy_val.specs.NodeSorts.{is_sort, as_sort, as_scalar, unary_sort, binary_sort, if_sort, select_sort, store_sort}
+use Rattle.hy_val.specs.Exprs.{sort_of_node, sorts_onto, node_by, values_by, variable, read, eval, is_there, node_reads, reads}
 use Rattle.hy_val.proofs.Tables.{left, right}
-use Rattle.hy_val.proofs.ResultSorts.{kept, kept_map, same_scalar_is, has_sort_is, unary_value_sorted, binary_value_sorted, pick_sorted, select_sorted, store_sorted}
+use Rattle.hy_val.proofs.ResultSorts.{kept, same_scalar_is, has_sort_is, unary_value_sorted, binary_value_sorted, pick_sorted, select_sorted, store_sorted}
 use Rattle.hy_val.specs.declared.sort.Scalar.{Scalar}
-use Rattle.hy_val.specs.declared.sort.ScalarKind.TheVariants.{Bool as BoolSort, Bv as BvSort}
 use Rattle.hy_val.specs.declared.sort.Sort.{Sort}
 use Rattle.hy_val.specs.declared.sort.SortKind.TheVariants.{Scalar as ScalarSort, Map as MapSort}
 use Rattle.hy_val.specs.declared.atom.Atom.{Atom}
-use Rattle.hy_val.specs.declared.atom.AtomKind.TheVariants.{Bool as BoolAtom, Bv as BvAtom}
 use Rattle.hy_val.specs.declared.operator.UnOp.{UnOp}
 use Rattle.hy_val.specs.declared.operator.BvOp.{BvOp}
 use Rattle.hy_val.specs.declared.value.Value.{Value}
@@ -132,7 +129,7 @@ abbrev pub all_kept : List Value → Type 0
 all_kept [] = Unit {0}
 all_kept (v ∷ vs) = kept v × all_kept vs
 
-kept_at : (vs : List Value) (k : ℕ) → all_kept vs → kept (default (slice_get vs k))
+pub kept_at : (vs : List Value) (k : ℕ) → all_kept vs → kept (default (slice_get vs k))
 kept_at [] k h = refl
 kept_at (v ∷ vs) zero h = h.0
 kept_at (v ∷ vs) (suc k) h = kept_at vs k h.1

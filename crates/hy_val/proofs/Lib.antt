@@ -1,4 +1,10 @@
+pub mod Building
 pub mod Evaluating
+pub mod Keeping
+pub mod Lawful
+pub mod Lists
+pub mod Ranges
 pub mod ResultSorts
+pub mod Same
 pub mod Tables
 pub mod Words

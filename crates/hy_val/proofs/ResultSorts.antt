@@ -1,16 +1,15 @@
 -- The sorts of results.
-use Rattle.std.proofs.Common.{◌≡◌, ℕ, zero, suc, ◌-◌, ◌+◌, ◌^◌, Bool, true, false, not, ◌&&◌, List, [], ◌∷◌, ◌++◌, length, map, arith, sym, ◌∙◌, ap, refl, subst}
-use Rattle.std.specs.Prelude.{Option, None, Some, nat_eq, nat_lt, nat_le, if◌then◌else◌, slice_get, IsTrue, IsSome, is_some}
-use Rattle.std.specs.Option.{option_map, option_and_then}
-use Rattle.std.proofs.lemmas.Option.{slice_get-map}
+use Rattle.std.proofs.Common.{◌≡◌, ℕ, ◌-◌, ◌+◌, ◌^◌, Bool, true, false, not, ◌&&◌, List, [], ◌∷◌, arith, sym, ◌∙◌, ap, refl}
+use Rattle.std.specs.Prelude.{Option, None, Some, nat_eq, nat_lt, nat_le, if◌then◌else◌, IsTrue}
+use Rattle.std.specs.Option.{option_map}
 use Rattle.std.proofs.lemmas.Bool.Decides.{nat_tests}
 use Rattle.hy_val.specs.Word.{Word}
 use Rattle.hy_val.specs.Sorts.{scalar_of, is_scalar, same_scalar, has_scalar, zero_of_scalar, rank, is_zero}
 use Rattle.hy_val.specs.Table.{Table}
-use Rattle.hy_val.specs.Maps.{pair_fits, pairs_fit, ascends, is_map, entry, select, stored}
-use Rattle.hy_val.specs.Operators.{bits_if, compared, same_width, sort_of_unary, sort_of_bools, sort_of_words, sort_of_binary, apply1, apply_to_words, apply}
-use Rattle.hy_val.specs.Values.{zero_of, sort_of, has_sort, default, at, atom_of, table_of, is_on, unary_value, binary_value, pick, select_value, store_value}
-use Rattle.hy_val.specs.NodeSorts.{is_sort, same_sort, as_sort, as_scalar, unary_sort, binary_sort, branch_sort, if_sort, entry_sort, select_sort, written_sort, store_sort}
+use Rattle.hy_val.specs.Maps.{pair_fits, pairs_fit, ascends, is_map, entry}
+use Rattle.hy_val.specs.Operators.{bits_if, sort_of_unary, sort_of_bools, sort_of_words, sort_of_binary, apply1, apply_to_words, apply}
+use Rattle.hy_val.specs.Values.{sort_of, has_sort, default, atom_of, is_on, unary_value, binary_value, pick, select_value, store_value}
+use Rattle.hy_val.specs.NodeSorts.{same_sort, as_sort, as_scalar, unary_sort, binary_sort, branch_sort, if_sort, entry_sort, select_sort, written_sort, store_sort}
 use Rattle.hy_val.proofs.Tables.{left, right}
 use Rattle.hy_val.specs.declared.sort.Scalar.{Scalar}
 use Rattle.hy_val.specs.declared.sort.ScalarKind.TheVariants.{Bool as BoolSort, Bv as BvSort}
@@ -189,7 +188,7 @@ entry_scalar_by : (same : Bool) (none v : Atom) (rest : Atom) (elem : Scalar) �
 entry_scalar_by true none v rest elem h k = h
 entry_scalar_by false none v rest elem h k = k
 
-entry_scalar : (index elem : Scalar) (none : Atom) (ps : List (Atom × Atom)) (i : Atom) → scalar_of none ≡ elem → pairs_fit index elem ps ≡ true → scalar_of (entry none ps i) ≡ elem
+pub entry_scalar : (index elem : Scalar) (none : Atom) (ps : List (Atom × Atom)) (i : Atom) → scalar_of none ≡ elem → pairs_fit index elem ps ≡ true → scalar_of (entry none ps i) ≡ elem
 entry_scalar index elem none [] i z f = z
 entry_scalar index elem none (p ∷ ps) i z f =
     let first : pair_fits index elem p ≡ true = left (pair_fits index elem p) (pairs_fit index elem ps) f in
@@ -198,7 +197,7 @@ entry_scalar index elem none (p ∷ ps) i z f =
     (has_scalar_is p.1 elem (right (has_scalar p.0 index) (has_scalar p.1 elem) two))
     (entry_scalar index elem none ps i z (right (pair_fits index elem p) (pairs_fit index elem ps) f))
 
-zero_scalar : (s : Scalar) → scalar_of (zero_of_scalar s) ≡ s
+pub zero_scalar : (s : Scalar) → scalar_of (zero_of_scalar s) ≡ s
 zero_scalar BoolSort = refl
 zero_scalar (BvSort w) = refl
 

@@ -1,9 +1,9 @@
 -- Ascending pairs: what a write leaves, and where it goes.
-use Rattle.std.proofs.Common.{◌≡◌, ◌≢◌, ℕ, zero, suc, ◌+◌, ◌^◌, ◌<◌, ◌≤◌, Bool, true, false, not, ◌&&◌, List, [], ◌∷◌, ◌++◌, length, take, drop, set, arith, sym, ◌∙◌, ap, refl, subst, inl, inr}
-use Rattle.std.specs.Prelude.{Option, None, Some, nat_eq, nat_lt, if◌then◌else◌, slice_get, slice_set, slice_index_or, insert, remove, IsTrue}
+use Rattle.std.proofs.Common.{◌≡◌, ◌≢◌, ℕ, zero, suc, ◌^◌, ◌<◌, ◌≤◌, Bool, true, false, not, ◌&&◌, List, [], ◌∷◌, length, arith, sym, ◌∙◌, ap, refl, subst}
+use Rattle.std.specs.Prelude.{nat_eq, nat_lt, if◌then◌else◌, slice_get, slice_set, slice_index_or, insert, remove, IsTrue}
 use Rattle.std.proofs.lemmas.Bool.Decides.{nat_tests}
 use Rattle.hy_val.specs.Word.{Word}
-use Rattle.hy_val.specs.Sorts.{scalar_of, is_scalar, has_scalar, rank, is_zero, zero_of_scalar}
+use Rattle.hy_val.specs.Sorts.{is_scalar, has_scalar, rank, is_zero, zero_of_scalar}
 use Rattle.hy_val.specs.Table.{Table}
 use Rattle.hy_val.specs.Maps.{pair_fits, pairs_fit, first_above, ascends, is_map, entry, select, kept, put, stored, WritesAt, MapsThatAgreeAreEqual}
 use Rattle.hy_val.specs.Places.{count_below, is_at, entry_at}

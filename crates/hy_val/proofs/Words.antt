@@ -1,12 +1,11 @@
 -- Arithmetic on 64-bit words, cut to a width.
-use Rattle.std.proofs.Common.{◌≡◌, ℕ, zero, suc, ◌+◌, ◌-◌, ◌*◌, ◌/◌, ◌%◌, ◌<◌, ◌≤◌, ◌^◌, Bool, true, false, arith, sym, ◌∙◌, ap, refl, subst, rules}
-use Rattle.std.specs.Prelude.{nat_lt, nat_le, nat_eq, bit_and, bit_or, bit_xor, ℤ, pos, negsuc, ◌-ℤ◌, int_lt, int_le, if◌then◌else◌}
-use Rattle.std.proofs.lemmas.Nat.{and_mask, pow_pos, pow-add, mod_below, or_lt, xor_lt, one_shl, shl_below, shr_below, pow_below, shl_whole, mul-add-lt}
+use Rattle.std.proofs.Common.{◌≡◌, ℕ, zero, suc, ◌+◌, ◌-◌, ◌*◌, ◌/◌, ◌%◌, ◌<◌, ◌≤◌, ◌^◌, Bool, true, false, arith, sym, ◌∙◌, ap, refl, subst}
+use Rattle.std.specs.Prelude.{nat_lt, bit_and, if◌then◌else◌}
+use Rattle.std.proofs.lemmas.Nat.{and_mask, pow_pos, pow-add, shl_whole, mul-add-lt}
 use Rattle.std.proofs.lemmas.Nat.Bits.{ones_shr}
 use Rattle.std.proofs.lemmas.Bool.Decides.{nat_tests}
-use Rattle.std.proofs.Math.Nat.{mod-mod, mod-eq_of_lt, add-mul-mod_self_right, mul_comm}
+use Rattle.std.proofs.Math.Nat.{add-mul-mod_self_right, mul_comm}
 use Rattle.std.proofs.Math.Pow.{mod-mod-pow, pow_mono}
-use Rattle.hy_val.specs.Bits.{is_negative, signed_value, bvslt, bvsle}
 
 -- the ones of w bits are those of 64, shifted
 pub shifted_ones : (w : ℕ) → w ≤ 64 → (2 ^ 64 - 1) / 2 ^ (64 - w) ≡ 2 ^ w - 1

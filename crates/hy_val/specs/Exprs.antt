@@ -1,5 +1,5 @@
 -- Expressions: lists of nodes whose children stand before them, their sorts, and their evaluation by cases (This is Boogie 2).
-use Rattle.std.specs.Prelude.{ℕ, ◌-◌, Bool, true, false, not, ◌&&◌, List, [], ◌∷◌, ◌++◌, length, slice_get, Option, None, Some, is_some, if◌then◌else◌}
+use Rattle.std.specs.Prelude.{◌-◌, Bool, true, false, not, ◌&&◌, List, [], ◌∷◌, ◌++◌, length, slice_get, Option, None, Some, is_some, if◌then◌else◌}
 use Rattle.std.specs.Option.{option_and_then}
 use Rattle.hy_val.specs.Sorts.{scalar_of, has_scalar}
 use Rattle.hy_val.specs.NodeSorts.{is_sort, as_scalar, unary_sort, binary_sort, if_sort, select_sort, store_sort}

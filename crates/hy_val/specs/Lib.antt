@@ -1,6 +1,9 @@
 pub mod Biased
 pub mod Bits
+pub mod Building
 pub mod Exprs
+pub mod Kept
+pub mod Laws
 pub mod Maps
 pub mod NodeSorts
 pub mod Operators

@@ -1,5 +1,5 @@
 -- Map values (This is Boogie 2: select and store), where an index that is not listed has the entry zero.
-use Rattle.std.specs.Prelude.{◌≡◌, ◌≢◌, ℕ, zero, suc, Bool, true, false, not, ◌&&◌, nat_eq, nat_lt, List, [], ◌∷◌, if◌then◌else◌, IsTrue}
+use Rattle.std.specs.Prelude.{◌≡◌, ◌≢◌, ℕ, Bool, true, not, ◌&&◌, nat_eq, nat_lt, List, [], ◌∷◌, if◌then◌else◌, IsTrue}
 use Rattle.hy_val.specs.Sorts.{has_scalar, rank, is_zero, zero_of_scalar}
 use Rattle.hy_val.specs.Table.{Table}
 use Rattle.hy_val.specs.declared.sort.Scalar.{Scalar}

@@ -1,5 +1,5 @@
 -- The sort of a node from those of its children, and None where they don't fit.
-use Rattle.std.specs.Prelude.{Bool, true, false, ◌&&◌, Option, None, Some, if◌then◌else◌}
+use Rattle.std.specs.Prelude.{Bool, false, ◌&&◌, Option, None, Some, if◌then◌else◌}
 use Rattle.hy_val.specs.Sorts.{is_scalar, same_scalar}
 use Rattle.hy_val.specs.Operators.{sort_of_unary, sort_of_binary}
 use Rattle.hy_val.specs.declared.sort.Scalar.{Scalar}

@@ -1,5 +1,5 @@
 -- Where an index stands, or would stand, among ascending pairs.
-use Rattle.std.specs.Prelude.{ℕ, zero, suc, Bool, true, false, nat_eq, nat_lt, List, [], ◌∷◌, if◌then◌else◌, Option, None, Some}
+use Rattle.std.specs.Prelude.{ℕ, zero, suc, Bool, false, nat_eq, nat_lt, List, [], ◌∷◌, if◌then◌else◌, Option, None, Some}
 use Rattle.hy_val.specs.Sorts.{rank}
 use Rattle.hy_val.specs.declared.atom.Atom.{Atom}
 

@@ -1,6 +1,5 @@
 -- Which sort an atom has, the zero of a sort, and the order of the atoms of a sort.
 use Rattle.std.specs.Prelude.{ℕ, ◌^◌, Bool, true, false, ◌&&◌, nat_eq, nat_lt, nat_le}
-use Rattle.hy_val.specs.Word.{Word}
 use Rattle.hy_val.specs.declared.sort.Scalar.{Scalar}
 use Rattle.hy_val.specs.declared.sort.ScalarKind.TheVariants.{Bool as BoolSort, Bv as BvSort}
 use Rattle.hy_val.specs.declared.atom.Atom.{Atom}

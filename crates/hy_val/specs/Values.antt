@@ -1,6 +1,6 @@
 -- Values of all sorts: the zero of a sort, which sort a value has, and what a node of an expression or a term makes of the values of its
 -- children. A part that isn't there, or is of another kind, is read as false or as an empty map; where the sorts fit none is.
-use Rattle.std.specs.Prelude.{ℕ, Bool, true, false, ◌&&◌, List, [], slice_get, Option, None, Some, if◌then◌else◌}
+use Rattle.std.specs.Prelude.{ℕ, Bool, false, ◌&&◌, List, [], slice_get, Option, None, Some, if◌then◌else◌}
 use Rattle.hy_val.specs.Sorts.{scalar_of, same_scalar, has_scalar, zero_of_scalar}
 use Rattle.hy_val.specs.Operators.{apply, apply1}
 use Rattle.hy_val.specs.Table.{Table}

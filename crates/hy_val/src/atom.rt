@@ -127,6 +127,16 @@ impl Atom {
         }
     }
 
+    /// Whether it is a value of the sort.
+    pub fn has_sort(self, sort: Scalar) -> bool
+        ensures { result ≡ has_scalar self sort }
+    {
+        match self.kind() {
+            AtomKind::Bool(_) => sort == Scalar::bool(),
+            AtomKind::Bv(v) => sort == Scalar::bits(v.width()),
+        }
+    }
+
     /// False, or the bit vector whose bits are all 0.
     pub fn zero(sort: Scalar) -> Atom
         ensures { result ≡ zero_of_scalar sort }

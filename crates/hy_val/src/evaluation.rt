@@ -1,187 +1,48 @@
-//! Evaluation of expressions, in one pass over the nodes that keeps each node's value.
-ghost use Rattle.std.specs.Prelude.{◌≡◌, [], map, slice_get, IfOk, IsTrue, IsSome};
-ghost use Rattle.std.specs.Option.{option_map};
-ghost use Rattle.hy_val.specs.Maps.{select, stored};
-ghost use Rattle.hy_val.specs.declared.value.Value.TheVariants.{Map as MapIs};
-ghost use Rattle.hy_val.specs.Sorts.{scalar_of, has_scalar};
-ghost use Rattle.hy_val.specs.Values.{sort_of, at, atom_of, table_of, is_on, unary_value, binary_value};
-ghost use Rattle.hy_val.specs.NodeSorts.{as_scalar, unary_sort, binary_sort, select_sort, store_sort};
-ghost use Rattle.hy_val.specs.Exprs.{sort_of_node, sorts_onto, node_by, values_by, read, eval, reads};
+//! Evaluation of expressions, in one pass over the nodes that copies no map.
+ghost use Rattle.std.specs.Prelude.{◌≡◌, [], IfOk, IsTrue, IsSome};
+ghost use Rattle.hy_val.specs.Exprs.{sorts_onto, values_by, read, eval, reads};
+ghost use Rattle.hy_val.specs.Kept.{meant_onto, Keeps};
 
-use crate::atom::{Atom, AtomKind};
-use crate::expr::{Env, Expr, ExprNode, Var};
-use crate::map::{MapValue, select, store};
-use crate::operation::{apply, apply1};
-use crate::operator::{BvOp, UnOp};
+use crate::expr::{Env, Expr, ExprNode};
+use crate::known::{Kept, Known};
 use crate::value::Value;
 use std::alloc::{AllocError, Global};
 
-// The atom at a place, which has its own sort; false where there is none.
-fn atom_at(known: &[Value], place: usize) -> Atom
-    ensures value { result ≡ atom_of (at known.now place) }
-    ensures kept { IsTrue (has_scalar result (scalar_of result)) }
-{
-    match sqlite_items::at(known, place) {
-        Some(Value::Atom(a)) => {
-            let _sort = a.sort();
-            *a
-        }
-        Some(Value::Map(_)) => Atom::bool(false),
-        None => Atom::bool(false),
-    }
-}
-
-// Whether the value at a place is true.
-fn is_on(known: &[Value], place: usize) -> bool
-    ensures { result ≡ is_on (at known.now place) }
-{
-    match atom_at(known, place).kind() {
-        AtomKind::Bool(b) => b,
-        AtomKind::Bv(_) => false,
-    }
-}
-
-// The value at a place, copied; false where there is none.
-fn value_at(alloc: Global, known: &[Value], place: usize) -> Result<Value, AllocError>
-    ensures { IfOk result (λ v. v ≡ at known.now place) }
-{
-    match sqlite_items::at(known, place) {
-        Some(value) => value.copy(alloc),
-        None => Ok(Value::Atom(Atom::bool(false))),
-    }
-}
-
-// The value of a variable, copied; false where there is none.
-fn read(alloc: Global, env: &Env, var: Var) -> Result<Value, AllocError>
-    ensures { IfOk result (λ v. v ≡ read env.now var) }
-{
-    match env.get(var) {
-        Some(value) => value.copy(alloc),
-        None => Ok(Value::Atom(Atom::bool(false))),
-    }
-}
-
-fn unary(known: &[Value], op: UnOp, child: usize) -> Atom
-    requires { IsSome (unary_sort op (as_scalar (slice_get (map sort_of known.now) child))) }
-    ensures { result ≡ atom_of (unary_value op (at known.now child)) }
-{
-    apply1(op, atom_at(known, child))
-}
-
-fn binary(known: &[Value], op: BvOp, left: usize, right: usize) -> Atom
-    requires { IsSome (binary_sort op (as_scalar (slice_get (map sort_of known.now) left)) (as_scalar (slice_get (map sort_of known.now) right))) }
-    ensures { result ≡ atom_of (binary_value op (at known.now left) (at known.now right)) }
-{
-    apply(op, atom_at(known, left), atom_at(known, right))
-}
-
-// The entry at an index of the map at a place; false where there is no map.
-fn select_at(known: &[Value], place: usize, i: Atom) -> Atom
-    requires kept { IsTrue (has_scalar i (scalar_of i)) }
-    requires fits { IsSome (select_sort (option_map sort_of (slice_get known.now place)) (Some (scalar_of i))) }
-    ensures { result ≡ select (table_of (at known.now place)) i }
-{
-    match sqlite_items::at(known, place) {
-        Some(Value::Map(m)) => select(m, i),
-        Some(Value::Atom(_)) => Atom::bool(false),
-        None => Atom::bool(false),
-    }
-}
-
-// A copy of a map with a value in place of its entry at an index.
-fn copy_with(alloc: Global, m: &MapValue, i: Atom, v: Atom) -> Result<Value, AllocError>
-    requires index { IsTrue (has_scalar i m.now.index) }
-    requires elem { IsTrue (has_scalar v m.now.elem) }
-    ensures { IfOk result (λ r. r ≡ MapIs (stored m.now i v)) }
-{
-    let mut map = m.copy(alloc)?;
-    store(&mut map, i, v)?;
-    Ok(Value::Map(map))
-}
-
-// The map at a place with a value in place of its entry at an index.
-fn store_at(
-    alloc: Global,
-    known: &[Value],
-    place: usize,
-    i: Atom,
-    v: Atom,
-) -> Result<Value, AllocError>
-    requires index_kept { IsTrue (has_scalar i (scalar_of i)) }
-    requires value_kept { IsTrue (has_scalar v (scalar_of v)) }
-    requires fits { IsSome (store_sort (option_map sort_of (slice_get known.now place)) (Some (scalar_of i)) (Some (scalar_of v))) }
-    ensures { IfOk result (λ r. r ≡ MapIs (stored (table_of (at known.now place)) i v)) }
-{
-    match sqlite_items::at(known, place) {
-        Some(Value::Map(m)) => copy_with(alloc, m, i, v),
-        Some(Value::Atom(_)) => unreachable!(),
-        None => unreachable!(),
-    }
-}
-
-// The value of a node, from those of the nodes before it.
-fn node_value(
-    alloc: Global,
-    env: &Env,
-    known: &[Value],
-    node: &ExprNode,
-) -> Result<Value, AllocError>
-    requires { IsSome (sort_of_node (map sort_of known.now) node.now) }
-    ensures { IfOk result (λ v. v ≡ node_by (read env.now) known.now node.now) }
-{
-    match node {
-        ExprNode::Lit(atom) => Ok(Value::Atom(*atom)),
-        ExprNode::Var { var, sort: _ } => read(alloc, env, *var),
-        ExprNode::Unary { op, child } => Ok(Value::Atom(unary(known, *op, *child))),
-        ExprNode::Binary { op, left, right } => Ok(Value::Atom(binary(known, *op, *left, *right))),
-        ExprNode::If { cond, yes, no } => {
-            if is_on(known, *cond) {
-                value_at(alloc, known, *yes)
-            } else {
-                value_at(alloc, known, *no)
-            }
-        }
-        ExprNode::Select { map, index } => Ok(Value::Atom(select_at(
-            known,
-            *map,
-            atom_at(known, *index),
-        ))),
-        ExprNode::Store { map, index, value } => {
-            store_at(
-                alloc,
-                known,
-                *map,
-                atom_at(known, *index),
-                atom_at(known, *value),
-            )
-        }
-    }
-}
-
-// The values of all nodes.
-fn values_of(alloc: Global, env: &Env, nodes: &[ExprNode]) -> Result<Vec<Value>, AllocError>
+// What is kept of all nodes.
+fn kept_of(alloc: Global, env: &Env, nodes: &[ExprNode]) -> Result<Vec<Kept>, AllocError>
     requires sorts { IsSome (sorts_onto [] nodes.now) }
     requires variables { IsTrue (reads env.now nodes.now) }
-    ensures { IfOk result (λ vs. vs.items ≡ values_by (read env.now) [] nodes.now) }
+    ensures values { IfOk result (λ ks. meant_onto env.now [] ks.items ≡ values_by (read env.now) [] nodes.now) }
+    ensures keeps { IfOk result (λ ks. Keeps env.now ks.items) }
 {
-    let mut values = Vec::new(alloc);
+    let mut kept = Vec::new(alloc);
     for node in nodes {
-        let value = node_value(alloc, env, values.as_slice(), node)?;
-        // It says that the value is one of its sort, which an operator on it will ask.
-        let _sort = value.sort();
-        values.push(value)?;
+        let known = Known {
+            env,
+            kept: kept.as_slice(),
+        };
+        let next = known.node(node);
+        kept.push(next)?;
     }
-    Ok(values)
+    Ok(kept)
 }
 
 /// The value of an expression in an environment, which has its variables with their sorts.
+///
+/// One pass over the nodes keeps an atom, a variable or a store for each, and copies no map. A select
+/// goes down the stores below it to the map of a variable, in which it searches. Where no node is the
+/// child of two, no two selects go over the same store, so the pass takes as many steps as there are
+/// nodes; n selects above one chain of n stores take n each. A map is copied once, where it is the
+/// value of the whole, and then takes what the stores above its variable write, one by one.
 pub fn eval(alloc: Global, e: &Expr, env: &Env) -> Result<Value, AllocError>
     requires { IsTrue (reads env.now e.now) }
     ensures { IfOk result (λ v. v ≡ eval env.now e.now) }
 {
-    let mut values = values_of(alloc, env, e.nodes())?;
-    match values.pop() {
-        Some(value) => Ok(value),
-        None => Ok(Value::Atom(Atom::bool(false))),
-    }
+    let nodes = e.nodes();
+    let kept = kept_of(alloc, env, nodes)?;
+    let known = Known {
+        env,
+        kept: kept.as_slice(),
+    };
+    known.value(alloc, nodes.len() - 1)
 }

@@ -1,5 +1,5 @@
 //! Expressions, and the environments that they read.
-ghost use Rattle.std.specs.Prelude.{◌≡◌, IfOk, IsTrue};
+ghost use Rattle.std.specs.Prelude.{◌≡◌, ◌↔◌, IfOk, IsTrue};
 ghost use Rattle.std.specs.Option.{option_copied};
 
 use crate::atom::Atom;
@@ -78,6 +78,28 @@ impl Model for Expr {
     ghost invariant = { λ e. IsTrue (is_expr e.nodes) };
 }
 
+// Whether two nodes are equal.
+fn same_node(left: &ExprNode, right: &ExprNode) -> bool
+    ensures { IsTrue result ↔ (left.now ≡ right.now) }
+{
+    *left == *right
+}
+
+// Whether two lists of nodes are equal.
+fn same_nodes(left: &[ExprNode], right: &[ExprNode]) -> bool
+    ensures { IsTrue result ↔ (left.now ≡ right.now) }
+{
+    if left.len() != right.len() {
+        return false;
+    }
+    for i in 0..left.len() {
+        if !same_node(&left[i], &right[i]) {
+            return false;
+        }
+    }
+    true
+}
+
 impl Expr {
     ghost use Rattle.hy_val.specs.Exprs.{is_expr};
 
@@ -95,6 +117,13 @@ impl Expr {
         ensures kept { IsTrue (is_expr self.now) }
     {
         self.nodes.as_slice()
+    }
+
+    /// Whether the two are equal: the same list of nodes. It takes no memory.
+    pub fn same(&self, other: &Expr) -> bool
+        ensures { IsTrue result ↔ (self.now ≡ other.now) }
+    {
+        same_nodes(self.nodes.as_slice(), other.nodes.as_slice())
     }
 
     /// An equal expression.
@@ -115,7 +144,7 @@ pub struct Env {
 }
 
 impl Env {
-    ghost use Rattle.hy_val.specs.Exprs.{variable};
+    ghost use Rattle.hy_val.specs.Exprs.{variable, node_reads, reads};
 
     /// The value of a variable, where it has one.
     pub fn get(&self, var: Var) -> Option<&Value>
@@ -126,5 +155,36 @@ impl Env {
             Var::Global(number) => at(self.globals.as_slice(), number as usize),
             Var::Local(number) => at(self.locals.as_slice(), number as usize),
         }
+    }
+
+    // Whether the variable of a node, if it is one, is there with its sort.
+    fn node_reads(&self, node: &ExprNode) -> bool
+        ensures { result ≡ node_reads self.now node.now }
+    {
+        match node {
+            ExprNode::Var { var, sort } => match self.get(*var) {
+                Some(value) => value.has_sort(*sort),
+                None => false,
+            },
+            ExprNode::Lit(_) => true,
+            ExprNode::Unary { .. } => true,
+            ExprNode::Binary { .. } => true,
+            ExprNode::If { .. } => true,
+            ExprNode::Select { .. } => true,
+            ExprNode::Store { .. } => true,
+        }
+    }
+
+    /// Whether the variables of an expression are there, with their sorts: what its evaluation asks.
+    pub fn reads(&self, e: &Expr) -> bool
+        ensures { result ≡ reads self.now e.now }
+    {
+        let nodes = e.nodes();
+        for node in nodes {
+            if !self.node_reads(node) {
+                return false;
+            }
+        }
+        true
     }
 }

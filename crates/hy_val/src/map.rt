@@ -1,5 +1,5 @@
 //! Map values: a sorted list of the entries that aren't zero.
-ghost use Rattle.std.specs.Prelude.{◌≡◌, [], nat_lt, slice_get, OnOk, OnErr, IfOk, IsTrue};
+ghost use Rattle.std.specs.Prelude.{◌≡◌, ◌↔◌, [], nat_lt, slice_get, OnOk, OnErr, IfOk, IsTrue};
 ghost use Rattle.hy_val.specs.Maps.{select, put, stored, ascends, is_map, WritesAt};
 ghost use Rattle.hy_val.specs.Places.{count_below, is_at, entry_at};
 ghost use Rattle.hy_val.specs.Sorts.{has_scalar, rank};
@@ -66,6 +66,15 @@ impl MapValue {
         self.pairs.as_slice()
     }
 
+    /// Whether the two are equal: the same sorts and the same entries. It takes no memory.
+    pub fn same(&self, other: &MapValue) -> bool
+        ensures { IsTrue result ↔ (self.now ≡ other.now) }
+    {
+        self.index == other.index
+            && self.elem == other.elem
+            && same_pairs(self.pairs.as_slice(), other.pairs.as_slice())
+    }
+
     /// An equal map.
     pub fn copy(&self, alloc: Global) -> Result<MapValue, AllocError>
         ensures { IfOk result (λ m. m ≡ self.now) }
@@ -77,6 +86,28 @@ impl MapValue {
             pairs,
         })
     }
+}
+
+// Whether two pairs are equal.
+fn same_pair(left: &(Atom, Atom), right: &(Atom, Atom)) -> bool
+    ensures { IsTrue result ↔ (left.now ≡ right.now) }
+{
+    left.0 == right.0 && left.1 == right.1
+}
+
+// Whether two lists of pairs are equal.
+fn same_pairs(left: &[(Atom, Atom)], right: &[(Atom, Atom)]) -> bool
+    ensures { IsTrue result ↔ (left.now ≡ right.now) }
+{
+    if left.len() != right.len() {
+        return false;
+    }
+    for i in 0..left.len() {
+        if !same_pair(&left[i], &right[i]) {
+            return false;
+        }
+    }
+    true
 }
 
 // How many pairs have an index below i: the place of i.

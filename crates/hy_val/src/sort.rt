@@ -1,5 +1,7 @@
 //! The sorts of values: bool, the bit vectors of 1 to 64 bits, and maps between those.
-ghost use Rattle.std.specs.Prelude.{◌≡◌, ◌-◌, ◌<◌, ◌≤◌, ◌^◌, ◌↔◌, IsSome, IfSome};
+ghost use Rattle.std.specs.Prelude.{◌≡◌, ◌-◌, ◌<◌, ◌≤◌, ◌^◌, ◌↔◌, IsTrue, IsSome, IfSome};
+ghost use Rattle.hy_val.specs.Sorts.{is_scalar};
+ghost use Rattle.hy_val.specs.NodeSorts.{is_sort};
 
 use std::marker::Model;
 
@@ -102,6 +104,11 @@ impl Scalar {
         self.kind
     }
 
+    /// That the width is 1 to 64, as the type keeps. It does nothing.
+    pub fn keeps_width(self)
+        ensures { IsTrue (is_scalar self) }
+    {}
+
     /// The sort of the bools.
     pub fn bool() -> Scalar
         ensures { result ≡ ScalarKind.Bool }
@@ -154,6 +161,11 @@ impl Sort {
     {
         self.kind
     }
+
+    /// That widths are 1 to 64, as the types keep. It does nothing.
+    pub fn keeps_widths(self)
+        ensures { IsTrue (is_sort self) }
+    {}
 
     /// A scalar as a sort.
     pub fn scalar(scalar: Scalar) -> Sort

@@ -1,5 +1,5 @@
 //! Values of all sorts.
-ghost use Rattle.std.specs.Prelude.{◌≡◌, IfOk, IsTrue};
+ghost use Rattle.std.specs.Prelude.{◌≡◌, ◌↔◌, IfOk, IsTrue};
 ghost use Rattle.hy_val.specs.Values.{sort_of, has_sort, zero_of};
 ghost use Rattle.hy_val.specs.Maps.{is_map};
 
@@ -43,6 +43,41 @@ impl Value {
         match sort.kind() {
             SortKind::Scalar(scalar) => Value::Atom(Atom::zero(scalar)),
             SortKind::Map { index, elem } => Value::Map(MapValue::zero(alloc, index, elem)),
+        }
+    }
+
+    /// Whether the two are equal. It takes no memory.
+    pub fn same(&self, other: &Value) -> bool
+        ensures { IsTrue result ↔ (self.now ≡ other.now) }
+    {
+        match self {
+            Value::Atom(a) => match other {
+                Value::Atom(b) => *a == *b,
+                Value::Map(_) => false,
+            },
+            Value::Map(m) => match other {
+                Value::Atom(_) => false,
+                Value::Map(n) => m.same(n),
+            },
+        }
+    }
+
+    /// Whether it is a value of the sort.
+    pub fn has_sort(&self, sort: Sort) -> bool
+        ensures { result ≡ has_sort self.now sort }
+    {
+        match self {
+            Value::Atom(a) => match sort.kind() {
+                SortKind::Scalar(scalar) => a.has_sort(scalar),
+                SortKind::Map { index: _, elem: _ } => false,
+            },
+            Value::Map(m) => match sort.kind() {
+                SortKind::Scalar(_) => false,
+                SortKind::Map { index, elem } => {
+                    let _pairs = m.pairs();
+                    m.index() == index && m.elem() == elem
+                }
+            },
         }
     }
 

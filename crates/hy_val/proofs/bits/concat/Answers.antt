@@ -1,4 +1,4 @@
-use Rattle.std.proofs.Common.{◌≡◌, ◌+◌, ◌*◌, ◌%◌, ◌^◌, ◌<◌, rules}
+use Rattle.std.proofs.Common.{◌≡◌, ◌+◌, ◌*◌, ◌%◌, ◌^◌, ◌<◌}
 use Rattle.hy_val.proofs.Words.{placed, joined_below, narrow_power}
 use Rattle.hy_val.proofs.bits.concat.Goals as goal
 

@@ -1,4 +1,4 @@
-use Rattle.std.proofs.Common.{◌≡◌, ◌+◌, ◌-◌, ◌^◌, arith, ap, ◌∙◌}
+use Rattle.std.proofs.Common.{◌≡◌, ◌+◌, ◌-◌, ◌^◌, ap, ◌∙◌}
 use Rattle.hy_val.proofs.Words.{longer_ones, extended_below, still_below}
 use Rattle.hy_val.proofs.bits.sign_extend.Goals as goal
 

@@ -1,5 +1,5 @@
 -- Each way of writing is what `put` does at the place of the index.
-use Rattle.std.proofs.Common.{◌≡◌, ◌<◌, ◌≤◌, ◌∙◌, sym, ap, length, true, false, arith}
+use Rattle.std.proofs.Common.{◌≡◌, ◌<◌, ◌≤◌, ◌∙◌, ap, length, true, false, arith}
 use Rattle.hy_val.proofs.Tables.{put_known, there_known, place_known}
 use Rattle.hy_val.proofs.map.put.Goals as goal
 

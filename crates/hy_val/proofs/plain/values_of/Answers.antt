@@ -7,7 +7,7 @@ use Rattle.hy_val.specs.declared.sort.Sort.{Sort}
 use Rattle.hy_val.specs.declared.value.Value.{Value}
 use Rattle.hy_val.proofs.ResultSorts.{kept}
 use Rattle.hy_val.proofs.Evaluating.{Evaluates, at_node, next_node}
-use Rattle.hy_val.proofs.evaluation.values_of.Goals as goal
+use Rattle.hy_val.proofs.plain.values_of.Goals as goal
 
 pub loop-node-preserved : goal.loop-node-preserved
 loop-node-preserved c =

@@ -3,7 +3,7 @@ use Rattle.std.proofs.Common.{sym, ◌∙◌, ap, List, []}
 use Rattle.hy_val.specs.Exprs.{values_by, read}
 use Rattle.hy_val.specs.declared.expr.ExprNode.{ExprNode}
 use Rattle.hy_val.proofs.Evaluating.{last_is}
-use Rattle.hy_val.proofs.evaluation.eval.Goals as goal
+use Rattle.hy_val.proofs.plain.eval_plain.Goals as goal
 
 pub returns-in-Some : goal.returns-in-Some
 returns-in-Some c =

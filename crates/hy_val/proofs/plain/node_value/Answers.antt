@@ -1,6 +1,6 @@
 -- What a node asks of its children's values follows from its sort.
 use Rattle.hy_val.proofs.Evaluating.{select_known, store_known}
-use Rattle.hy_val.proofs.evaluation.node_value.Goals as goal
+use Rattle.hy_val.proofs.plain.node_value.Goals as goal
 
 pub unary-requires : goal.unary-requires
 unary-requires c = rw c.in-Unary.is at c.requires

@@ -1,5 +1,5 @@
 use Rattle.hy_val.proofs.Evaluating.{binary_known}
-use Rattle.hy_val.proofs.evaluation.binary.Goals as goal
+use Rattle.hy_val.proofs.plain.binary.Goals as goal
 
 pub apply-requires : goal.apply-requires
 apply-requires c =
