@@ -1,9 +1,7 @@
 -- What a look says of the clause, and what says what a look is.
-use Rattle.std.proofs.Common.{◌≡◌, ℕ, zero, suc, ◌+◌, ◌-◌, ◌/◌, ◌%◌, ◌==◌, ◌<◌, ◌≤◌, Bool, true, false, not, ◌||◌, ◌&&◌, List, [], ◌∷◌, ◌++◌, Some, length, refl, ap, sym, ◌∙◌, subst, rules, arith, inl, inr, cond}
-use Rattle.std.proofs.lemmas.Grind.{common_steps}
-use Rattle.std.proofs.lemmas.Bool.{cases_Bool, or_cases, or_parts, and_parts, eqb-true, false≢true, eq-eqb, false_from_ne_true, ne_eqb}
-use Rattle.std.specs.List.{list_all, list_any, filter}
-use Rattle.cnf_form.specs.declared.look.Look.{Look}
+use Rattle.std.proofs.Common.{◌≡◌, ℕ, ◌==◌, true, false, not, ◌&&◌, List, [], ◌∷◌, refl, ap, sym, ◌∙◌, subst, arith, inl, inr}
+use Rattle.std.proofs.lemmas.Bool.{cases_Bool, or_cases, and_parts, eqb-true, false≢true, eq-eqb}
+use Rattle.std.specs.List.{list_all}
 use Rattle.cnf_form.specs.declared.look.Look.TheVariants.{Falsified, Unit, Other}
 use Rattle.cnf_form.specs.Literal.{negation, is_among, look, look_open, open_literals}
 

@@ -1,14 +1,12 @@
 -- Literals under which no clause is unit or false hold what propagation gives.
-use Rattle.std.proofs.Common.{◌≡◌, ℕ, ◌==◌, Bool, true, false, not, ◌||◌, ◌&&◌, List, [], ◌∷◌, ◌++◌, Some, map, refl, ap, sym, ◌∙◌, subst, rules, arith, inl, inr, slice_get}
-use Rattle.std.proofs.lemmas.Bool.{cases_Bool, or_cases, and_parts, eqb-true, eq-eqb, false≢true, false_from_ne_true}
-use Rattle.std.specs.List.{filter}
-use Rattle.cnf_form.specs.declared.look.Look.{Look}
+use Rattle.std.proofs.Common.{◌≡◌, ℕ, ◌==◌, true, false, List, [], ◌∷◌, Some, ap, sym, ◌∙◌, subst, arith, inl, inr, slice_get}
+use Rattle.std.proofs.lemmas.Bool.{cases_Bool, eqb-true, eq-eqb, false≢true}
 use Rattle.cnf_form.specs.declared.look.Look.TheVariants.{Falsified, Unit, Other}
-use Rattle.cnf_form.specs.Literal.{negation, is_among, is_tautology, look}
+use Rattle.cnf_form.specs.Literal.{negation, is_among, is_tautology}
 use Rattle.cnf_form.specs.Store.{falses_of, NoneSeen}
 use Rattle.cnf_form.specs.New.{Closure, IsQuiet, IsNew, others}
 use Rattle.cnf_form.specs.New.Closure.{given, forced}
-use Rattle.cnf_form.proofs.Trails.{is_among-map, negation-negation, is_among-push}
+use Rattle.cnf_form.proofs.Trails.{is_among-map, negation-negation}
 use Rattle.cnf_form.proofs.Looks.{look_unit, look_falsified}
 
 -- a set that holds these literals and is closed holds the closure

@@ -1,9 +1,8 @@
 -- A log that refutes leaves no satisfying list.
-use Rattle.std.proofs.Common.{◌≡◌, ℕ, zero, suc, ◌+◌, ◌-◌, ◌/◌, ◌%◌, ◌==◌, Bool, true, false, not, ◌&&◌, ◌||◌, List, [], ◌∷◌, ◌++◌, Option, None, Some, slice_get, map, refl, ap, sym, ◌∙◌, rules, arith, append_assoc, inl, inr}
-use Rattle.std.proofs.lemmas.Grind.{common_steps}
+use Rattle.std.proofs.Common.{◌≡◌, ℕ, zero, suc, ◌==◌, Bool, true, false, not, List, [], ◌∷◌, ◌++◌, Option, None, Some, slice_get, refl, sym, ◌∙◌, arith, inl, inr}
 use Rattle.std.proofs.lemmas.Bool.{and_parts, or_parts, or_cases, cases_Bool, eqb-true, false≢true, or_from}
 use Rattle.std.proofs.lemmas.List.Folds.{list_any-append}
-use Rattle.std.specs.List.{list_any, list_all, filter, AllByRecursion}
+use Rattle.std.specs.List.{list_any, list_all}
 use Rattle.std.specs.Option.{option_map}
 use Rattle.cnf_form.specs.Literal.{negation, is_among, is_tautology, literal_value, clause_value, Satisfies, Satisfiable, look, look_open, open_literals}
 use Rattle.cnf_form.specs.Lines.{follows, accepts, refutes, hints_refute, hint_says, is_empty_list, is_empty_line}

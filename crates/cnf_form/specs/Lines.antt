@@ -1,6 +1,6 @@
 -- When a line follows from clauses by its hints, and when a log refutes: reverse unit propagation
 -- (Goldberg and Novikov 2003), with hints as in the LRAT format (Cruz-Filipe, Heule, Hunt, Kaufmann, Schneider-Kamp 2017).
-use Rattle.std.specs.Prelude.{◌≡◌, ℕ, Bool, true, false, not, ◌||◌, ◌&&◌, List, [], ◌∷◌, ◌++◌, Option, None, Some, slice_get, map}
+use Rattle.std.specs.Prelude.{ℕ, Bool, true, false, not, ◌&&◌, List, [], ◌∷◌, ◌++◌, Option, None, Some, slice_get, map}
 use Rattle.std.specs.List.{list_any}
 use Rattle.std.specs.Option.{option_map}
 use Rattle.cnf_form.specs.Literal.{negation, is_tautology, look}

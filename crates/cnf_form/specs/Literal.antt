@@ -1,6 +1,6 @@
 -- Literals and clauses under truth values, and under a list of literals that are false.
 -- A literal is twice its variable, plus one where it is negated, as in the AIGER and DIMACS literature.
-use Rattle.std.specs.Prelude.{◌≡◌, ℕ, ◌+◌, ◌-◌, ◌/◌, ◌%◌, ◌==◌, Bool, true, false, not, ◌||◌, ◌&&◌, if◌then◌else◌, List, [], ◌∷◌, slice_index_or, length, nat_lt}
+use Rattle.std.specs.Prelude.{◌≡◌, ℕ, ◌+◌, ◌-◌, ◌/◌, ◌%◌, ◌==◌, Bool, true, false, not, ◌&&◌, if◌then◌else◌, List, [], ◌∷◌, slice_index_or, length, nat_lt}
 use Rattle.std.specs.List.{filter, list_any, list_all, AllByRecursion}
 use Rattle.cnf_form.specs.declared.look.Look.{Look}
 use Rattle.cnf_form.specs.declared.look.Look.TheVariants.{Falsified, Unit, Other}

@@ -1,5 +1,5 @@
 -- Lines that add to what unit propagation gives.
-use Rattle.std.specs.Prelude.{◌≡◌, ℕ, Bool, true, false, not, ◌==◌, List, [], ◌∷◌, ◌++◌, Some, slice_get, map}
+use Rattle.std.specs.Prelude.{◌≡◌, ℕ, true, false, not, ◌==◌, List, [], ◌∷◌, ◌++◌, Some, slice_get, map}
 use Rattle.std.specs.List.{filter}
 use Rattle.cnf_form.specs.Literal.{negation, is_among, is_tautology}
 use Rattle.cnf_form.specs.declared.log.Line.{Line}

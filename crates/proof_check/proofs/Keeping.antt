@@ -1,13 +1,12 @@
 -- A log of the lines that the last one needs still refutes.
-use Rattle.std.proofs.Common.{◌≡◌, ℕ, zero, suc, ◌+◌, ◌-◌, ◌<◌, ◌≤◌, ◌==◌, Bool, true, false, not, ◌||◌, ◌&&◌, if◌then◌else◌, Option, None, Some, List, [], ◌∷◌, ◌++◌, length, map, take, drop, get_or, slice_get, refl, ap, sym, ◌∙◌, subst, rules, arith, inl, inr, ◌⊎◌, set, append_assoc, append-nil, length-append, length-drop, add-one, take_all}
+use Rattle.std.proofs.Common.{◌≡◌, ℕ, zero, suc, ◌+◌, ◌-◌, ◌<◌, ◌≤◌, ◌==◌, Bool, true, false, not, ◌||◌, ◌&&◌, if◌then◌else◌, Option, None, Some, List, [], ◌∷◌, ◌++◌, length, map, take, drop, get_or, slice_get, refl, ap, sym, ◌∙◌, subst, arith, inl, inr, ◌⊎◌, set, append_assoc, append-nil, length-append, take_all}
 use Rattle.std.proofs.lemmas.List.{take_more, length-take-le, drop_all}
 use Rattle.cnf_form.proofs.Trails.{is_among-push}
 use Rattle.proof_check.specs.Verdict.{IsFirstBad}
 use Rattle.std.specs.Prelude.{nat_lt, slice_index_or}
 use Rattle.std.specs.List.{list_any, list_all, items_where_true}
 use Rattle.std.specs.Option.{option_map}
-use Rattle.std.proofs.lemmas.Grind.{common_steps}
-use Rattle.std.proofs.lemmas.Bool.{and_parts, or_parts, or_cases, cases_Bool, eqb-true, eq-eqb, false≢true, or_left, or_right, or_from, false_from_ne_true, lt-ltb, le-ltb, ltb-true, ltb-false}
+use Rattle.std.proofs.lemmas.Bool.{and_parts, or_parts, or_cases, cases_Bool, eqb-true, eq-eqb, false≢true, or_left, or_right, lt-ltb, le-ltb, ltb-false}
 use Rattle.cnf_form.specs.Literal.{negation, is_among, is_tautology, look}
 use Rattle.cnf_form.specs.Lines.{follows, accepts, refutes, hints_refute, hint_says, is_empty_list, is_empty_line, clauses_of}
 use Rattle.cnf_form.specs.declared.log.Line.{Line}

@@ -1,5 +1,5 @@
 -- Logs in which each line is needed.
-use Rattle.std.specs.Prelude.{ℕ, ◌+◌, Bool, true, false, not, ◌&&◌, if◌then◌else◌, List, [], ◌∷◌}
+use Rattle.std.specs.Prelude.{ℕ, ◌+◌, Bool, false, not, ◌&&◌, if◌then◌else◌, List, [], ◌∷◌}
 use Rattle.std.specs.List.{list_any}
 use Rattle.cnf_form.specs.Literal.{is_among}
 use Rattle.cnf_form.specs.Lines.{is_empty_list, is_empty_line}

@@ -1,3 +1,11 @@
+pub mod Extending
 pub mod Learning
 pub mod Marking
+pub mod Measure
+pub mod Placing
+pub mod Reaching
 pub mod Refuting
+pub mod Returning
+pub mod Satisfying
+pub mod Searches
+pub mod Seeing

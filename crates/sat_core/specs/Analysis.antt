@@ -1,6 +1,6 @@
 -- What the analysis of a conflict keeps.
-use Rattle.std.specs.Prelude.{◌≡◌, ℕ, ◌+◌, ◌/◌, ◌<◌, ◌≤◌, Bool, true, false, List, [], ◌∷◌, ◌++◌, length, take, drop, slice_index, slice_get, Some, if◌then◌else◌}
-use Rattle.cnf_form.specs.Literal.{negation, is_among, is_distinct}
+use Rattle.std.specs.Prelude.{◌≡◌, ℕ, ◌+◌, ◌/◌, ◌<◌, true, false, List, [], ◌∷◌, ◌++◌, length, take, drop, slice_index, slice_get, Some, if◌then◌else◌}
+use Rattle.cnf_form.specs.Literal.{negation, is_among}
 use Rattle.cnf_form.specs.Lines.{follows, hints_refute}
 use Rattle.cnf_form.specs.New.{IsNew}
 use Rattle.cnf_form.specs.declared.log.Line.{Line}

@@ -4,10 +4,13 @@
 pub mod learn;
 pub mod outcome;
 pub mod scan;
+mod search;
+pub mod solver;
 
 pub use learn::analyze;
 pub use outcome::Answer;
 pub use scan::ScanStore;
+pub use solver::solve;
 
 #[cfg(test)]
 mod tests;

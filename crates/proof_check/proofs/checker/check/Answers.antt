@@ -1,4 +1,4 @@
-use Rattle.std.proofs.Common.{rules, arith, length, ◌<◌}
+use Rattle.std.proofs.Common.{arith, length, ◌<◌}
 use Rattle.std.proofs.lemmas.Grind.{common_steps}
 use Rattle.cnf_form.proofs.Accepting.{accepts_more, empty_more, is_empty_list-length}
 use Rattle.proof_check.proofs.checker.check.Goals as goal

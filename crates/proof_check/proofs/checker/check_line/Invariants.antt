@@ -1,4 +1,4 @@
-use Rattle.std.proofs.Common.{◌≡◌, ◌++◌, map, take, drop}
+use Rattle.std.proofs.Common.{◌≡◌, ◌++◌, take, drop}
 use Rattle.std.specs.List.{list_any}
 use Rattle.cnf_form.specs.Lines.{follows, hints_refute}
 use Rattle.cnf_form.specs.Literal.{negation, is_among, is_tautology}

@@ -1,4 +1,4 @@
-use Rattle.std.proofs.Common.{◌≡◌, ℕ, ◌+◌, ◌-◌, ◌<◌, ◌≤◌, length, get_or, arith}
+use Rattle.std.proofs.Common.{arith}
 use Rattle.std.specs.Prelude.{slice_index_or}
 use Rattle.proof_check.proofs.Keeping.{among_index, mark_then, mark_else}
 use Rattle.proof_check.proofs.trimmer.mark_hints.Goals as goal

@@ -1,8 +1,8 @@
-use Rattle.std.proofs.Common.{◌≡◌, ℕ, List, ◌+◌, ◌-◌, ◌<◌, ◌≤◌, ◌||◌, Bool, [], ◌∷◌, ◌++◌, length, take, drop, Some, true, false, slice_get, arith, ap, sym, ◌∙◌, subst}
+use Rattle.std.proofs.Common.{◌≡◌, ℕ, List, ◌+◌, ◌-◌, ◌<◌, ◌||◌, Bool, ◌++◌, length, take, drop, Some, true, false, slice_get, arith, ap, sym, ◌∙◌, subst}
 use Rattle.std.proofs.lemmas.Bool.{or_left}
 use Rattle.cnf_form.specs.Literal.{is_among}
 use Rattle.cnf_form.specs.declared.log.Line.{Line}
-use Rattle.proof_check.specs.Trimming.{HintsEarlier, AreNeeded, is_set, ClosedFrom, UsedFrom}
+use Rattle.proof_check.specs.Trimming.{is_set, ClosedFrom, UsedFrom}
 use Rattle.proof_check.proofs.Keeping.{pass_closed, pass_used, mark_closed, mark_used, set_from, line_from, whole}
 use Rattle.proof_check.proofs.trimmer.needed_lines.Goals as goal
 

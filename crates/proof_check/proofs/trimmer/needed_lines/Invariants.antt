@@ -1,4 +1,4 @@
-use Rattle.std.proofs.Common.{◌≡◌, ℕ, ◌-◌, ◌≤◌, true, length}
+use Rattle.std.proofs.Common.{◌≡◌, ◌-◌, ◌≤◌, true, length}
 use Rattle.proof_check.specs.Trimming.{is_set, ClosedFrom, UsedFrom}
 use Rattle.proof_check.proofs.trimmer.needed_lines.Given as goal
 

@@ -1,7 +1,6 @@
-use Rattle.std.proofs.Common.{◌≡◌, ℕ, List, ◌+◌, ◌-◌, ◌<◌, ◌≤◌, ◌++◌, [], ◌∷◌, true, false, ◌&&◌, not, Some, length, take, reverse, get_or, slice_get, subst, rules, arith, length-take, length-drop, take_all, sym, ◌∙◌, ap, refl}
-use Rattle.cnf_form.specs.Literal.{is_among, negation, is_tautology}
-use Rattle.cnf_form.specs.Lines.{hints_refute, follows}
-use Rattle.sat_core.specs.Analysis.{AreLow, pending, segment, RefuteFrom}
+use Rattle.std.proofs.Common.{◌≡◌, ℕ, List, ◌+◌, ◌-◌, ◌<◌, ◌≤◌, ◌++◌, [], ◌∷◌, true, false, length, take, reverse, get_or, subst, rules, arith, length-take, length-drop, take_all, sym, ◌∙◌, ap, refl}
+use Rattle.cnf_form.specs.Literal.{is_among, negation}
+use Rattle.sat_core.specs.Analysis.{pending, segment, RefuteFrom}
 use Rattle.sat_core.proofs.Marking.{among_here}
 use Rattle.std.proofs.lemmas.Bool.{false≢true}
 use Rattle.std.proofs.lemmas.List.{reverse-append}

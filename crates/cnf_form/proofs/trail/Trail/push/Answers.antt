@@ -1,4 +1,4 @@
-use Rattle.std.proofs.Common.{◌≡◌, ℕ, ◌<◌, false, true, List, [], ◌∷◌, ◌++◌, length, get_or, rules, arith, ◌∙◌}
+use Rattle.std.proofs.Common.{◌≡◌, ℕ, ◌<◌, false, [], ◌∷◌, ◌++◌, length, get_or, rules, ◌∙◌}
 use Rattle.cnf_form.specs.Literal.{is_among}
 use Rattle.cnf_form.proofs.Trails.{flags_push, is_distinct-push}
 use Rattle.cnf_form.proofs.trail.Trail.push.Goals as goal

@@ -1,4 +1,3 @@
-use Rattle.std.proofs.Common.{sym, ◌∙◌}
 use Rattle.cnf_form.proofs.Trails.{is_among-map}
 use Rattle.cnf_form.proofs.trail.TrailFalseLiterals.is_false.Goals as goal
 
