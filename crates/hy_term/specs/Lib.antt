@@ -1,0 +1,5 @@
+pub mod Formula
+pub mod TermSorts
+pub mod Meaning
+pub mod Variables
+pub mod Laws
