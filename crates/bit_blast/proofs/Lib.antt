@@ -1,0 +1,11 @@
+pub mod Growing
+pub mod Numbers
+pub mod Zipping
+pub mod Adding
+pub mod EachBit
+pub mod Moving
+pub mod Comparing
+pub mod Shifting
+pub mod Dividing
+pub mod Signing
+pub mod FirstWires

@@ -1,0 +1,4 @@
+pub mod Words
+pub mod Pairings
+pub mod Moves
+pub mod Division
