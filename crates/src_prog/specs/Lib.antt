@@ -1,0 +1,4 @@
+pub mod Program
+pub mod Scope
+pub mod Loops
+pub mod Shape
