@@ -1,0 +1,14 @@
+mod Cases
+mod Equations
+mod ExprLaws
+mod FaultLaws
+mod Induction
+mod NameLaws
+mod PartEquations
+mod Preserved
+mod SortEquations
+mod StmtEquations
+mod TermEquations
+mod TermLaws
+mod UseEquations
+mod RepeatLaws

@@ -1,0 +1,16 @@
+pub mod Checked
+pub mod Commands
+pub mod Declarations
+pub mod ExprSorts
+pub mod Faults
+pub mod Graphs
+pub mod Laws
+pub mod Meanings
+pub mod Names
+pub mod Passes
+pub mod Replaced
+pub mod Scopes
+pub mod Sorts
+pub mod Tells
+pub mod Terms
+pub mod TypedOf

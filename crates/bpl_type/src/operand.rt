@@ -1,0 +1,376 @@
+//! What operators ask of the sorts of their operands.
+
+ghost use Rattle.std.specs.Prelude.{◌≡◌, map, Ok};
+ghost use Rattle.std.specs.Option.{option_copied};
+ghost use Rattle.hy_val.specs.NodeSorts.{same_sort};
+ghost use Rattle.hy_val.specs.Sorts.{same_scalar};
+ghost use Rattle.bpl_type.specs.ExprSorts as spec;
+ghost use Rattle.bpl_type.specs.Faults.{fault};
+
+use crate::fault::{TypeFault, TypeKind};
+use crate::tables::{Meaning, Signature};
+use crate::typed::Named;
+use bpl_ast::Word;
+use hy_val::{Scalar, ScalarKind, Sort, SortKind, Width};
+
+/// A part of an expression that has a sort.
+#[derive(Clone, Copy, Debug)]
+pub struct Operand {
+    /// The offset of its first token.
+    pub at: usize,
+    /// Its sort.
+    pub sort: Sort,
+}
+
+fn same_scalar(left: Scalar, right: Scalar) -> bool
+    ensures { result ≡ same_scalar left right }
+{
+    match left.kind() {
+        ScalarKind::Bool => match right.kind() {
+            ScalarKind::Bool => true,
+            ScalarKind::Bv { width: _ } => false,
+        },
+        ScalarKind::Bv { width } => match right.kind() {
+            ScalarKind::Bool => false,
+            ScalarKind::Bv { width: other } => width == other,
+        },
+    }
+}
+
+/// Whether two sorts are the same.
+pub fn same_sort(left: Sort, right: Sort) -> bool
+    ensures { result ≡ same_sort left right }
+{
+    match left.kind() {
+        SortKind::Scalar(scalar) => match right.kind() {
+            SortKind::Scalar(other) => same_scalar(scalar, other),
+            SortKind::Map { index: _, elem: _ } => false,
+        },
+        SortKind::Map { index, elem } => match right.kind() {
+            SortKind::Scalar(_) => false,
+            SortKind::Map {
+                index: other_index,
+                elem: other_elem,
+            } => same_scalar(index, other_index) && same_scalar(elem, other_elem),
+        },
+    }
+}
+
+fn mismatch(operand: &Operand) -> TypeFault
+    ensures { result ≡ fault operand.now.at TypeKind.Mismatch }
+{
+    TypeFault {
+        at: operand.at,
+        kind: TypeKind::Mismatch,
+    }
+}
+
+/// The sort of the bools.
+pub fn bool_sort() -> Sort
+    ensures { result ≡ spec.bool_sort }
+{
+    Sort::scalar(Scalar::bool())
+}
+
+/// The sort of a conjunction and the like: each operand is a bool, else Mismatch at the first that
+/// is none.
+pub fn all_bools(operands: &[Operand]) -> Result<Sort, TypeFault>
+    ensures { result ≡ spec.all_bools operands.now }
+{
+    let wanted = bool_sort();
+    for operand in operands {
+        if !same_sort(operand.sort, wanted) {
+            return Err(mismatch(operand));
+        }
+    }
+    Ok(wanted)
+}
+
+/// The sort of a chain of bools that begins at an offset. Arity where it has no operand, which no
+/// text has.
+pub fn chain_of_bools(at: usize, operands: &[Operand]) -> Result<Sort, TypeFault>
+    ensures { result ≡ spec.chain_of_bools at operands.now }
+{
+    if operands.is_empty() {
+        return Err(TypeFault {
+            at,
+            kind: TypeKind::Arity,
+        });
+    }
+    all_bools(operands)
+}
+
+fn width_of(operand: &Operand) -> Result<Width, TypeFault>
+    ensures { result ≡ spec.with_width operand.now operand.now.sort (λ w. Ok w) }
+{
+    match operand.sort.kind() {
+        SortKind::Scalar(scalar) => match scalar.kind() {
+            ScalarKind::Bool => Err(mismatch(operand)),
+            ScalarKind::Bv { width } => Ok(width),
+        },
+        SortKind::Map { index: _, elem: _ } => Err(mismatch(operand)),
+    }
+}
+
+/// The sort of `==` or `!=` at an offset: `map equality` where a side is a map, Mismatch where the
+/// sorts differ.
+pub fn compared(at: usize, left: &Operand, right: &Operand) -> Result<Sort, TypeFault>
+    ensures { result ≡ spec.compared at left.now right.now }
+{
+    if is_map(left.sort) || is_map(right.sort) {
+        return Err(TypeFault {
+            at,
+            kind: TypeKind::LeftOut {
+                what: Word::MapEquality,
+            },
+        });
+    }
+    if same_sort(left.sort, right.sort) {
+        Ok(bool_sort())
+    } else {
+        Err(TypeFault {
+            at,
+            kind: TypeKind::Mismatch,
+        })
+    }
+}
+
+fn is_map(sort: Sort) -> bool
+    ensures { result ≡ spec.is_map sort }
+{
+    match sort.kind() {
+        SortKind::Scalar(_) => false,
+        SortKind::Map { index: _, elem: _ } => true,
+    }
+}
+
+/// The sort of an `if` at an offset: Mismatch at a condition that is no bool, and at the whole where
+/// the branches have two sorts.
+pub fn chosen(
+    at: usize,
+    condition: &Operand,
+    yes: &Operand,
+    no: &Operand,
+) -> Result<Sort, TypeFault>
+    ensures { result ≡ spec.chosen at condition.now yes.now no.now }
+{
+    if !same_sort(condition.sort, bool_sort()) {
+        return Err(mismatch(condition));
+    }
+    if same_sort(yes.sort, no.sort) {
+        Ok(yes.sort)
+    } else {
+        Err(TypeFault {
+            at,
+            kind: TypeKind::Mismatch,
+        })
+    }
+}
+
+/// The sort of an entry of a map: Mismatch at what is no map, or at an index of another sort.
+pub fn selected(map: &Operand, index: &Operand) -> Result<Sort, TypeFault>
+    ensures { result ≡ spec.selected map.now index.now }
+{
+    match map.sort.kind() {
+        SortKind::Scalar(_) => Err(mismatch(map)),
+        SortKind::Map {
+            index: wanted,
+            elem,
+        } => {
+            if same_sort(index.sort, Sort::scalar(wanted)) {
+                Ok(Sort::scalar(elem))
+            } else {
+                Err(mismatch(index))
+            }
+        }
+    }
+}
+
+/// The sort of a map with a value at an index: Mismatch at what is no map, or at an index or a value
+/// of another sort.
+pub fn stored(map: &Operand, index: &Operand, value: &Operand) -> Result<Sort, TypeFault>
+    ensures { result ≡ spec.stored map.now index.now value.now }
+{
+    match map.sort.kind() {
+        SortKind::Scalar(_) => Err(mismatch(map)),
+        SortKind::Map {
+            index: wanted,
+            elem,
+        } => {
+            if !same_sort(index.sort, Sort::scalar(wanted)) {
+                return Err(mismatch(index));
+            }
+            if same_sort(value.sort, Sort::scalar(elem)) {
+                Ok(Sort::map(wanted, elem))
+            } else {
+                Err(mismatch(value))
+            }
+        }
+    }
+}
+
+/// The sort of the bits from low on, below high, of an expression that begins at an offset: Mismatch
+/// at what is no bit vector, and Width unless low < high <= width.
+pub fn extracted(at: usize, high: u128, low: u128, operand: &Operand) -> Result<Sort, TypeFault>
+    ensures { result ≡ spec.extracted at high low operand.now }
+{
+    let width = width_of(operand)?;
+    if low < high && high <= u128::from(width.bits()) {
+        Ok(Sort::scalar(Scalar::bits(Width::new((high - low) as u32))))
+    } else {
+        Err(TypeFault {
+            at,
+            kind: TypeKind::Width,
+        })
+    }
+}
+
+/// The sort of a literal at an offset. Width where its width is not 1 to 64 or doesn't hold its
+/// bits, which no text has.
+pub fn literal(at: usize, width: u32, bits: u64) -> Result<Sort, TypeFault>
+    ensures { result ≡ spec.literal at width bits }
+{
+    match Width::try_new(width) {
+        None => Err(TypeFault {
+            at,
+            kind: TypeKind::Width,
+        }),
+        Some(width) => {
+            if bits <= width.ones() {
+                Ok(Sort::scalar(Scalar::bits(width)))
+            } else {
+                Err(TypeFault {
+                    at,
+                    kind: TypeKind::Width,
+                })
+            }
+        }
+    }
+}
+
+/// The sort of `left ==> right`: Mismatch at the first side that is no bool.
+pub fn implies(left: &Operand, right: &Operand) -> Result<Sort, TypeFault>
+    ensures { result ≡ spec.needs spec.bool_sort left.now (spec.needs spec.bool_sort right.now (Ok spec.bool_sort)) }
+{
+    let wanted = bool_sort();
+    if !same_sort(left.sort, wanted) {
+        return Err(mismatch(left));
+    }
+    if same_sort(right.sort, wanted) {
+        Ok(wanted)
+    } else {
+        Err(mismatch(right))
+    }
+}
+
+// The width of a chain of `++` whose operands so far have a width.
+fn joined_after(at: usize, first: Width, operands: &[Operand]) -> Result<Sort, TypeFault>
+    ensures { result ≡ spec.joined_after at first operands.now }
+{
+    let mut width = first;
+    for operand in operands {
+        let more = width_of(operand)?;
+        if more.bits() > Width::MAX - width.bits() {
+            return Err(TypeFault {
+                at,
+                kind: TypeKind::Width,
+            });
+        }
+        width = Width::new(width.bits() + more.bits());
+    }
+    Ok(Sort::scalar(Scalar::bits(width)))
+}
+
+/// The sort of a chain of `++` that begins at an offset, from left to right: Mismatch at an operand
+/// that is no bit vector, Width where the widths so far add up to more than 64, and Arity where
+/// there is no operand, which no text has.
+pub fn joined(at: usize, operands: &[Operand]) -> Result<Sort, TypeFault>
+    ensures { result ≡ spec.joined at operands.now }
+{
+    match operands {
+        [] => Err(TypeFault {
+            at,
+            kind: TypeKind::Arity,
+        }),
+        [first, rest @ ..] => {
+            let width = width_of(first)?;
+            joined_after(at, width, rest)
+        }
+    }
+}
+
+// Mismatch at the first argument that has not its sort.
+fn all_fit(arguments: &[Named], operands: &[Operand], output: Sort) -> Result<Sort, TypeFault>
+    ensures { result ≡ spec.all_fit (map (λ a. a.sort) arguments.now) operands.now output }
+{
+    let mut rest = operands;
+    for argument in arguments {
+        match rest {
+            [] => return Ok(output),
+            [operand, more @ ..] => {
+                if !same_sort(operand.sort, argument.sort) {
+                    return Err(mismatch(operand));
+                }
+                rest = more;
+            }
+        }
+    }
+    Ok(output)
+}
+
+/// The sort of a use of a function at an offset, where it is known: Unknown, else Arity, else
+/// `uninterpreted` where it has no meaning, else Mismatch at the first argument that has not its
+/// sort.
+pub fn applied(
+    at: usize,
+    function: Option<&Signature>,
+    operands: &[Operand],
+) -> Result<Sort, TypeFault>
+    ensures { result ≡ spec.applied at (option_copied function.entry) operands.now }
+{
+    match function {
+        None => Err(TypeFault {
+            at,
+            kind: TypeKind::Unknown,
+        }),
+        Some(signature) => {
+            if signature.arguments.len() != operands.len() {
+                return Err(TypeFault {
+                    at,
+                    kind: TypeKind::Arity,
+                });
+            }
+            if is_nothing(signature.meaning) {
+                return Err(TypeFault {
+                    at,
+                    kind: TypeKind::LeftOut {
+                        what: Word::Uninterpreted,
+                    },
+                });
+            }
+            all_fit(signature.arguments.as_slice(), operands, signature.output)
+        }
+    }
+}
+
+fn is_nothing(meaning: Meaning) -> bool
+    ensures { result ≡ spec.is_nothing meaning }
+{
+    match meaning {
+        Meaning::Body => false,
+        Meaning::Operator(_) => false,
+        Meaning::Nothing => true,
+    }
+}
+
+/// The sort of a negation: Mismatch at an operand that is no bool.
+pub fn negated(operand: &Operand) -> Result<Sort, TypeFault>
+    ensures { result ≡ spec.needs spec.bool_sort operand.now (Ok spec.bool_sort) }
+{
+    let wanted = bool_sort();
+    if same_sort(operand.sort, wanted) {
+        Ok(wanted)
+    } else {
+        Err(mismatch(operand))
+    }
+}
