@@ -1,0 +1,2 @@
+pub mod WalkEquations
+pub mod Worked
