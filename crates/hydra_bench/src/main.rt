@@ -1,0 +1,107 @@
+//! Work for benchmarks: makes an input of the size that is asked for, does one piece of work on it, and prints counts of that
+//! work. It prints no times; the scripts under `bench/` take them from outside.
+#![tactic(auto)]
+
+mod circuits;
+mod reading;
+mod solving;
+mod values;
+
+use circuits::Circuit;
+use hy_text::read_u64;
+use std::alloc::Global;
+use std::{env, io};
+
+/// What is to be done, and how large.
+#[derive(Clone, Copy)]
+enum Work {
+    /// Cuts so many MiB of a program's text into tokens.
+    Tokens(u64),
+    /// Reads a program of so many MiB.
+    Parse(u64),
+    /// Evaluates an expression of so many thousand nodes.
+    Values(u64),
+    /// Solves random clauses of so many variables.
+    Solve(u64),
+    /// Builds circuits over words of so many bits.
+    Gates(u64),
+}
+
+/// The work that the words name; None where they name none.
+fn chosen(kind: &str, size: &str) -> Option<Work> {
+    let size = read_u64(size.as_bytes()).ok()?;
+    match kind {
+        "tokens" => Some(Work::Tokens(size)),
+        "parse" => Some(Work::Parse(size)),
+        "values" => Some(Work::Values(size)),
+        "solve" => Some(Work::Solve(size)),
+        "gates" => Some(Work::Gates(size)),
+        _ => None,
+    }
+}
+
+/// Does the work and prints its counts.
+fn run(rt: &HostRuntime, alloc: Global, work: Work) -> io::Result<()> {
+    match work {
+        Work::Tokens(size) => {
+            let counts = reading::cut(alloc, size)?;
+            println!(rt; "tokens: {} bytes, {} tokens", counts.bytes, counts.tokens)
+        }
+        Work::Parse(size) => {
+            let counts = reading::read(alloc, size)?;
+            println!(rt;
+                "parse: {} bytes, {} declarations",
+                counts.bytes, counts.declarations
+            )
+        }
+        Work::Values(size) => {
+            let counts = values::evaluate(alloc, size)?;
+            println!(rt; "values: {} nodes, value {}", counts.nodes, counts.value)
+        }
+        Work::Solve(size) => {
+            let counts = solving::decide(alloc, size)?;
+            let verdict = if counts.refuted {
+                "refuted"
+            } else {
+                "satisfiable"
+            };
+            println!(rt;
+                "solve: {size} variables, {} clauses, {} conflicts, {verdict}",
+                counts.clauses, counts.conflicts
+            )
+        }
+        Work::Gates(width) => {
+            let sum = circuits::count(alloc, Circuit::Adder, width)?;
+            let product = circuits::count(alloc, Circuit::Multiplier, width)?;
+            let quotient = circuits::count(alloc, Circuit::Divider, width)?;
+            println!(rt;
+                "gates: width {width}, adder {} ({} clauses), multiplier {} ({} clauses), divider {} ({} clauses)",
+                sum.gates,
+                sum.clauses,
+                product.gates,
+                product.clauses,
+                quotient.gates,
+                quotient.clauses
+            )
+        }
+    }
+}
+
+fn main(rt: HostRuntime) -> io::Result<()> {
+    let alloc = rt.alloc();
+    let args = env::args(&rt)?;
+    let mut words = Vec::new(alloc);
+    for arg in args.skip(1) {
+        words.push(arg)?;
+    }
+    let work = match words.as_slice() {
+        [kind, size] => chosen(kind.as_str(), size.as_str()),
+        _ => None,
+    };
+    match work {
+        Some(work) => run(&rt, alloc, work),
+        None => println!(rt;
+            "usage: hydra_bench tokens MIB | parse MIB | values THOUSANDS | solve VARIABLES | gates WIDTH"
+        ),
+    }
+}
