@@ -53,3 +53,5 @@ walk-if guard part other = search (rules, the_lemmas)
 pub walk-while : (guard : Option (List ExprNode)) (invariants : List TypedInvariant) (body : List TypedStmt) → walk (stmts.While guard invariants body) ≡ step (TypedStmt-F.While guard invariants (map walk body))
 unfolding walk
 walk-while guard invariants body = search (rules, the_lemmas)
+
+pub ruleset walks = (walk-label, walk-assert, walk-assume, walk-havoc, walk-goto, walk-return, walk-break, walk-assign, walk-call, walk-if, walk-while)

@@ -1,2 +1,4 @@
-pub mod Walk
+pub mod Fits
 pub mod Flow
+pub mod Parted
+pub mod Walk

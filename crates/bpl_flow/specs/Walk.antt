@@ -1,10 +1,19 @@
 -- The walk over the statements of a body, which makes blocks (This is Boogie 2, statements; the order in which blocks are made and
 -- asserts are numbered is this project's own). Where an edge leads to a label or past a statement, the number is found at the end.
-use Rattle.std.specs.Prelude.{ℕ, ◌+◌, ◌-◌, Bool, true, false, ◌&&◌, nat_eq, List, [], ◌∷◌, ◌++◌, length, map, Option, None, Some, is_some, if◌then◌else◌}
+use Rattle.std.specs.Prelude.{ℕ, ◌+◌, ◌-◌, Bool, true, false, ◌&&◌, nat_eq, List, [], ◌∷◌, ◌++◌, length, map, filter, Option, None, Some, is_some, if◌then◌else◌}
 use Rattle.std.specs.List.{list_all, list_any}
 use Rattle.std.specs.Str.{bytes_eq}
 use Rattle.bpl_ast.specs.declared.name.Name.{Name}
 use Rattle.bpl_flow.specs.declared.fault.FlowFault.{FlowFault}
+use Rattle.bpl_flow.specs.declared.state.Aim.TheVariants.{Block, Label, Exit}
+use Rattle.bpl_flow.specs.declared.state.Around.{Around}
+use Rattle.bpl_flow.specs.declared.state.Current.{Current}
+use Rattle.bpl_flow.specs.declared.state.End.{End}
+use Rattle.bpl_flow.specs.declared.state.End.TheVariants.{Goes, Returns}
+use Rattle.bpl_flow.specs.declared.state.Ended.{Ended}
+use Rattle.bpl_flow.specs.declared.state.Jump.{Jump}
+use Rattle.bpl_flow.specs.declared.state.Place.{Place}
+use Rattle.bpl_flow.specs.declared.state.Walk.{Walk}
 use Rattle.bpl_flow.specs.declared.fault.FlowKind.TheVariants as tells
 use Rattle.bpl_type.specs.declared.typed.TypedInvariant.{TypedInvariant}
 use Rattle.bpl_type.specs.declared.typed.TypedStmt.{TypedStmt}
@@ -16,64 +25,6 @@ use Rattle.hy_val.specs.declared.operator.UnOp.TheVariants.{Not}
 use Rattle.src_prog.specs.declared.block.Cmd.{Cmd}
 use Rattle.src_prog.specs.declared.block.Cmd.TheVariants as cmds
 use Rattle.src_prog.specs.declared.proc.SrcLoop.{SrcLoop}
-
--- where an edge leads
-pub data Aim : Type 0 where
-  Block : (number : ℕ) → Aim
-  Label : (name : List ℕ) → Aim
-  -- past the statement of this number
-  Exit : (statement : ℕ) → Aim
-
--- how a block ends
-pub data End : Type 0 where
-  Goes : (aims : List Aim) → End
-  Returns : End
-
--- the current block: its number, and its commands so far
-pub record Current : Type 0 where
-  pub number : ℕ
-  pub cmds : List Cmd
-
--- a block that has ended
-pub record Ended : Type 0 where
-  pub number : ℕ
-  pub cmds : List Cmd
-  pub end : End
-
--- an `if` or a `while` that is being walked. Its number is that of the block of its first part, or of its head.
-pub record Around : Type 0 where
-  pub statement : ℕ
-  -- the label directly before it
-  pub label : Option Name
-  pub is_loop : Bool
-
--- the first place of a label: its block, and the loops around it
-pub record Place : Type 0 where
-  pub name : List ℕ
-  pub block : ℕ
-  pub loops : List ℕ
-
--- a name in a goto: whether the label stood before, and the loops around the goto
-pub record Jump : Type 0 where
-  pub name : Name
-  pub is_behind : Bool
-  pub loops : List ℕ
-
-pub record Walk : Type 0 where
-  -- how many blocks have been made, and asserts numbered
-  pub made : ℕ
-  pub asserts : ℕ
-  pub current : Option Current
-  pub ended : List Ended
-  pub loops : List SrcLoop
-  -- the exits of the statements that have been walked
-  pub exits : List (ℕ × ℕ)
-  pub places : List Place
-  pub jumps : List Jump
-  -- the statements that the breaks so far leave
-  pub breaks : List ℕ
-  -- second labels, and breaks that leave nothing
-  pub faults : List FlowFault
 
 abbrev pub begin : Walk
 begin = record { made = 1; asserts = 0; current = Some (record { number = 0; cmds = [] }); ended = []; loops = []; exits = []; places = []; jumps = []; breaks = []; faults = [] }
@@ -138,8 +89,7 @@ add_invariants (i ∷ more) before asserts = add_invariants more (add_invariant 
 -- ---- labels, gotos, breaks
 
 abbrev pub loops_of : List Around → List ℕ
-loops_of [] = []
-loops_of (a ∷ rest) = if a.is_loop then a.statement ∷ loops_of rest else loops_of rest
+loops_of around = map (λ a. a.statement) (filter (λ a. a.is_loop) around)
 
 abbrev pub is_placed : List ℕ → List Place → Bool
 is_placed name places = list_any (λ p. bytes_eq p.name name) places
@@ -167,14 +117,15 @@ abbrev pub has_label : List ℕ → Option Name → Bool
 has_label name None = false
 has_label name (Some n) = bytes_eq n.text name
 
--- the innermost statement with this label directly before it, or the innermost loop where none is named
+-- whether such a break may leave the statement: one with this label directly before it, or a loop where none is named
 abbrev pub leaves : Option Name → Around → Bool
 leaves None a = a.is_loop
 leaves (Some n) a = has_label n.text a.label
 
-abbrev pub left_by : Option Name → List Around → Option ℕ
-left_by name [] = None
-left_by name (a ∷ rest) = if leaves name a then Some a.statement else left_by name rest
+-- the innermost of these statements that such a break leaves, else what was found before
+abbrev pub left_by : Option Name → Option ℕ → List Around → Option ℕ
+left_by name found [] = found
+left_by name found (a ∷ rest) = left_by name (if leaves name a then Some a.statement else found) rest
 
 abbrev pub break_to : Option ℕ → ℕ → Walk → Walk
 break_to None at w = stop Returns (record w { faults = w.faults ++ record { at = at; kind = tells.BreakOutside } ∷ [] })
@@ -228,7 +179,8 @@ end_while false guard head first before w =
 
 -- ---- statements
 
--- What a statement does in the walk, among the statements around it and with the label directly before it; and its name where it is a label.
+-- What a statement does in the walk, among the statements around it, the outermost first, and with the label directly before it; and
+-- its name where it is a label.
 pub record Step : Type 0 where
   pub label : Option Name
   pub go : List Around → Option Name → Walk → Walk
@@ -241,7 +193,7 @@ go_all (s ∷ ss) around before w = go_all ss around s.label (s.go around before
 abbrev pub walk_if : Option (List ExprNode) → List Step → List Step → List Around → Option Name → Walk → Walk
 walk_if guard part other around before w =
     let from = in_block w in
-    let inside = record { statement = from.made; label = before; is_loop = false } ∷ around in
+    let inside = around ++ record { statement = from.made; label = before; is_loop = false } ∷ [] in
     let after_part = go_all part inside None (begin_part guard from) in
     end_if from.current from.made after_part.made (go_all other inside None (begin_else from.made guard after_part))
 
@@ -249,7 +201,7 @@ abbrev pub walk_while : Option (List ExprNode) → List TypedInvariant → List 
 walk_while guard invariants body around before w =
     let from = in_block w in
     let first = add_invariants invariants [] from.asserts in
-    let inside = record { statement = from.made; label = before; is_loop = true } ∷ around in
+    let inside = around ++ record { statement = from.made; label = before; is_loop = true } ∷ [] in
     let after_body = go_all body inside None (begin_body guard first.1 from) in
     end_while (is_broken guard from.made after_body.breaks) guard from.made first.0 from.loops after_body
 
@@ -267,7 +219,7 @@ step (TypedStmt-F.Assume condition) = plain (λ around before w. command (cmds.A
 step (TypedStmt-F.Havoc vars) = plain (λ around before w. command (cmds.Havoc vars) w)
 step (TypedStmt-F.Goto labels) = plain (λ around before w. goto around labels w)
 step TypedStmt-F.Return = plain (λ around before w. stop Returns (in_block w))
-step (TypedStmt-F.Break at name) = plain (λ around before w. break_to (left_by name around) at (in_block w))
+step (TypedStmt-F.Break at name) = plain (λ around before w. break_to (left_by name None around) at (in_block w))
 step (TypedStmt-F.Assign pairs) = plain (λ around before w. command (cmds.Assign pairs) w)
 step (TypedStmt-F.Call proc args outs) = plain (λ around before w. command (cmds.Call proc args outs) w)
 step (TypedStmt-F.If guard part other) = plain (walk_if guard part other)

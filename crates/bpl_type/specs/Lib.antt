@@ -14,3 +14,4 @@ pub mod Sorts
 pub mod Tells
 pub mod Terms
 pub mod TypedOf
+pub mod WellTyped
