@@ -1,24 +1,27 @@
 -- What the program prints for an outcome, and the status with which it ends.
 use Rattle.std.specs.Prelude.{ℕ, ◌+◌, true, false, List, [], ◌∷◌, ◌++◌, codes, decimal, slice_get, Option, None, Some}
 use Rattle.std.specs.Option.{option_map_or}
-use Rattle.src_run.specs.declared.prog.Named.{Named}
-use Rattle.src_run.specs.declared.prog.SrcProc.{SrcProc}
-use Rattle.src_run.specs.declared.values.Atom.TheVariants.{Bool as BoolAtom}
-use Rattle.src_run.specs.declared.values.Value.{Value}
-use Rattle.src_run.specs.declared.values.Value.TheVariants.{Atom as AtomValue}
-use Rattle.src_run.specs.declared.machine.Choice.{Choice}
-use Rattle.src_run.specs.declared.machine.Choice.TheVariants.{Go, Val}
-use Rattle.src_run.specs.Program.{Program}
+use Rattle.bool_run.specs.declared.prog.Named.{Named}
+use Rattle.bool_run.specs.declared.prog.SrcProc.{SrcProc}
+use Rattle.bool_run.specs.declared.values.Atom.TheVariants.{Bool as BoolAtom}
+use Rattle.bool_run.specs.declared.values.Value.{Value}
+use Rattle.bool_run.specs.declared.values.Value.TheVariants.{Atom as AtomValue}
+use Rattle.bool_run.specs.declared.machine.Choice.{Choice}
+use Rattle.bool_run.specs.declared.machine.Choice.TheVariants.{Go, Val}
+use Rattle.bool_run.specs.Program.{Program}
+use Rattle.bool_form.specs.Form.{program_of}
+use Rattle.bpl_ast.specs.declared.decl.Ast.{Ast}
 use Rattle.bpl_ast.specs.declared.word.Word.{Word}
 use Rattle.bpl_ast.specs.declared.word.Word.TheVariants as words
 use Rattle.bpl_parse.specs.declared.fault.ParseKind.{ParseKind}
 use Rattle.bpl_parse.specs.declared.fault.ParseKind.TheVariants.{Unexpected, EndTooSoon, TooDeep, LeftOut}
+use Rattle.bpl_show.specs.Shown.{shown_text}
 use Rattle.bpl_tok.specs.declared.token.LexKind.{LexKind}
 use Rattle.bpl_tok.specs.declared.token.LexKind.TheVariants.{BadByte, OpenComment, OpenString, LiteralTooWide}
 use Rattle.hydra_top.specs.declared.outcome.Refusal.{Refusal}
 use Rattle.hydra_top.specs.declared.outcome.Refusal.TheVariants.{NotBuilt as NotBuiltPart, TooLong, Lex, Parse, NoEntry}
 use Rattle.hydra_top.specs.declared.outcome.Outcome.{Outcome}
-use Rattle.hydra_top.specs.declared.outcome.Outcome.TheVariants.{Safe, Bug, Refused, ReadFault, WriteFault, NoMemory}
+use Rattle.hydra_top.specs.declared.outcome.Outcome.TheVariants.{Safe, Bug, Done, Refused, ReadFault, WriteFault, NoMemory}
 
 -- a line ends with one line feed
 abbrev pub line : List ℕ → List ℕ
@@ -100,19 +103,31 @@ refusal_text (Lex fault) = fault_line (codes "lex") fault.at (lex_words fault.ki
 refusal_text (Parse fault) = fault_line (codes "parse") fault.at (parse_words fault.kind)
 refusal_text (NoEntry name) = line (codes "refused: no entry " ++ name)
 
--- what is printed for an outcome about a program
-abbrev pub text_of : Option Program → Outcome → List ℕ
-text_of prog Safe = line (codes "Safe")
-text_of prog (Bug choices proc assert) = bug_text prog choices proc assert
-text_of prog (Refused refusal) = refusal_text refusal
-text_of prog ReadFault = line (codes "fault: read")
-text_of prog WriteFault = []
-text_of prog NoMemory = line (codes "no memory")
+-- the program of a tree, if it has one
+abbrev pub program_in : Option Ast → Option Program
+program_in None = None
+program_in (Some tree) = program_of tree
+
+-- a tree in its canonical form
+abbrev pub canonical : Option Ast → List ℕ
+canonical None = []
+canonical (Some tree) = shown_text tree
+
+-- what is printed for an outcome about a tree
+abbrev pub text_of : Option Ast → Outcome → List ℕ
+text_of tree Safe = line (codes "Safe")
+text_of tree (Bug choices proc assert) = bug_text (program_in tree) choices proc assert
+text_of tree Done = canonical tree
+text_of tree (Refused refusal) = refusal_text refusal
+text_of tree ReadFault = line (codes "fault: read")
+text_of tree WriteFault = []
+text_of tree NoMemory = line (codes "no memory")
 
 -- the number of an outcome, which is the status of the process
 abbrev pub status_number : Outcome → ℕ
 status_number Safe = 0
 status_number (Bug choices proc assert) = 10
+status_number Done = 0
 status_number (Refused refusal) = 3
 status_number ReadFault = 4
 status_number WriteFault = 5

@@ -4,9 +4,10 @@ use Rattle.std.specs.Str.{bytes_eq}
 use Rattle.hy_text.specs.declared.number.NumFault.{NumFault}
 use Rattle.hy_text.specs.Number.{number_of}
 
--- what is to be done with the program of a file: the runs of a procedure, by its name, are searched within a bound
+-- what is to be done with a file: the runs of a procedure of its program, by its name, are searched within a bound, or its tree is shown
 pub data Job : Type 0 where
   solo : (entry : List ℕ) (bound : ℕ) → Job
+  show : Job
 
 -- what is asked: a job on the program of a file
 pub record Task : Type 0 where
@@ -25,11 +26,11 @@ abbrev pub bounded : List ℕ → List ℕ → Option ℕ → Option Task
 bounded file entry None = None
 bounded file entry (Some bound) = Some (record { file = file; job = solo entry bound })
 
--- the words are `solo`, a file, an entry and the digits of a bound; leading zeros are read
+-- the words are `show` and a file; or `solo`, a file, an entry and the digits of a bound, of which leading zeros are read
 abbrev pub task_of : List (List ℕ) → Option Task
 task_of [] = None
 task_of (job ∷ []) = None
-task_of (job ∷ file ∷ []) = None
+task_of (job ∷ file ∷ []) = if bytes_eq job (codes "show") then Some (record { file = file; job = show }) else None
 task_of (job ∷ file ∷ entry ∷ []) = None
 task_of (job ∷ file ∷ entry ∷ bound ∷ []) = if bytes_eq job (codes "solo") then bounded file entry (bound_in (number_of bound)) else None
 task_of (job ∷ file ∷ entry ∷ bound ∷ more ∷ rest) = None

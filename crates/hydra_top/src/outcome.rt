@@ -3,16 +3,16 @@
 ghost use Rattle.std.specs.Prelude.{◌≡◌};
 ghost use Rattle.hydra_top.specs.Texts.{status_number};
 
+use bool_run::machine::Choice;
 use bpl_parse::ParseFault;
 use bpl_tok::LexFault;
 use hy_text::Text;
 use sqlite_items::Items;
-use src_run::machine::Choice;
 
 /// What of the input is not of the form that is built.
 #[derive(Clone, Copy, Debug, PartialEq, Eq)]
 pub enum NotBuilt {
-    /// The words are not `solo`, a file, an entry, and a bound from 1 to 1000 in digits.
+    /// The words are neither `show` and a file, nor `solo`, a file, an entry, and a bound from 1 to 1000 in digits.
     Words,
     /// The program is not one block of asserts and assumes over bools.
     Source,
@@ -45,6 +45,8 @@ pub enum Outcome {
         proc: u32,
         assert: u32,
     },
+    /// The tree of the file was shown.
+    Done,
     /// The input is refused.
     Refused(Refusal),
     /// The file could not be opened or read.
@@ -55,7 +57,7 @@ pub enum Outcome {
     NoMemory,
 }
 
-/// The outcome, and the status with which the process ends: 0 for Safe, 10 for Bug, 3 for a
+/// The outcome, and the status with which the process ends: 0 for Safe and Done, 10 for Bug, 3 for a
 /// refusal, 4 and 5 for faults of reading and writing, 6 for want of memory.
 #[derive(Drop)]
 pub struct Report {
@@ -84,6 +86,7 @@ fn status(outcome: &Outcome) -> u8
             proc: _,
             assert: _,
         } => 10,
+        Outcome::Done => 0,
         Outcome::Refused(_) => 3,
         Outcome::ReadFault => 4,
         Outcome::WriteFault => 5,

@@ -17,6 +17,10 @@ const FALSE: &[u8] = b"procedure main() { assert false; assume false; }\n";
 const DEEP: &[u8] =
     b"axiom (((((((((((((((((((((((((((((((((((((((((((((((((((((((((((((((((((((((((((((((((((((((((((((((((((((((((((((((((((((((((((((((((((((((((((((((((((((((((((((((((((((((((((((((((((((((((((((((((((((((((true)))))))))))))))))))))))))))))))))))))))))))))))))))))))))))))))))))))))))))))))))))))))))))))))))))))))))))))))))))))))))))))))))))))))))))))))))))))))))))))))))))))))))))))))))))))))))))))))))))))))));";
 
+// The same in 200 pairs.
+const WITHIN: &[u8] =
+    b"axiom ((((((((((((((((((((((((((((((((((((((((((((((((((((((((((((((((((((((((((((((((((((((((((((((((((((((((((((((((((((((((((((((((((((((((((((((((((((((((((((((((((((((((((((((((((((((((((((((((((((((((true))))))))))))))))))))))))))))))))))))))))))))))))))))))))))))))))))))))))))))))))))))))))))))))))))))))))))))))))))))))))))))))))))))))))))))))))))))))))))))))))))))))))))))))))))))))))))))))))))))))));";
+
 // Runs the words on a shelf with the one file `f`.
 fn run(
     alloc: Global,
@@ -69,10 +73,33 @@ fn outcomes_are_printed(rt: HostRuntime) -> Result<(), Fail> {
 }
 
 #[test]
+fn trees_are_shown(rt: HostRuntime) -> Result<(), Fail> {
+    let cases: [(&[u8], u8, &[u8]); 4] = [
+        (
+            b"var b:bool;procedure main(){assert ((b));}",
+            0,
+            b"var b : bool ;\nprocedure main ( ) {\nassert b ;\n}\n",
+        ),
+        (WITHIN, 0, b"axiom true ;\n"),
+        (b"", 0, b""),
+        (b"var x: int;", 3, b"refused: parse 7 left out integer\n"),
+    ];
+    for (bytes, status, printed) in cases {
+        let (ended, out) = run(rt.alloc(), &["show", "f"], bytes, &[], 100, &[])?;
+        assert_eq!(rt; ended, status);
+        assert_eq!(rt; out.held(), printed);
+    }
+    Ok(())
+}
+
+#[test]
 fn words_are_read(rt: HostRuntime) -> Result<(), Fail> {
     let refused: &[u8] = b"refused: not built\n";
     let safe: &[u8] = b"Safe\n";
-    let cases: [(&[&str], u8, &[u8]); 12] = [
+    let cases: [(&[&str], u8, &[u8]); 15] = [
+        (&["show"], 3, refused),
+        (&["show", "f", "main"], 3, refused),
+        (&["show", "g"], 4, b"fault: read\n"),
         (&["solo", "f", "main", "1000"], 0, safe),
         (
             &["solo", "f", "main", "00000000000000000000000001"],

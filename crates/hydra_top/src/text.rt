@@ -3,10 +3,10 @@
 ghost use Rattle.std.specs.Prelude.{◌≡◌, ◌++◌, ◌∷◌, [], IfOk, OnOk, OnErr, codes, decimal};
 ghost use Rattle.hydra_top.specs.Texts.{choice_line, choice_lines, global_name, line, proc_name, trace_text, value_text};
 
+use bool_run::machine::Choice;
+use bool_run::prog::Prog;
+use bool_run::values::{Atom, Value};
 use hy_text::{Bytes, put_u64};
-use src_run::machine::Choice;
-use src_run::prog::Prog;
-use src_run::values::{Atom, Value};
 use std::alloc::{AllocError, Global};
 
 /// The trace of a failing run: a head, a line for each choice, and the assert that is false.
