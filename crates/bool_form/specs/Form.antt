@@ -20,19 +20,19 @@ use Rattle.bpl_ast.specs.declared.stmt.Else.{Else}
 use Rattle.bpl_ast.specs.declared.stmt.Else.TheOpen.{Stmt-F}
 use Rattle.bpl_ast.specs.declared.stmt.If.{If}
 use Rattle.bpl_ast.specs.declared.stmt.Stmt.{Stmt, out-Stmt}
-use Rattle.src_run.specs.declared.values.Scalar.TheVariants.{Bool as BoolScalar}
-use Rattle.src_run.specs.declared.values.Sort.{Sort}
-use Rattle.src_run.specs.declared.values.Sort.TheVariants.{Scalar as ScalarSort}
-use Rattle.src_run.specs.declared.values.Atom.TheVariants.{Bool as BoolAtom}
-use Rattle.src_run.specs.declared.exprs.Var.TheVariants.{Global}
-use Rattle.src_run.specs.declared.exprs.UnOp.TheVariants.{Not as NotOp}
-use Rattle.src_run.specs.declared.exprs.ExprNode.{ExprNode}
-use Rattle.src_run.specs.declared.exprs.ExprNode.TheVariants.{Lit, Var as VarNode, Unary}
-use Rattle.src_run.specs.declared.prog.Named.{Named}
-use Rattle.src_run.specs.declared.prog.Cmd.{Cmd}
-use Rattle.src_run.specs.declared.prog.Cmd.TheVariants.{Assume as AssumeCmd, Assert as AssertCmd}
-use Rattle.src_run.specs.declared.prog.Next.TheVariants.{Return}
-use Rattle.src_run.specs.Program.{Program}
+use Rattle.bool_run.specs.declared.values.Scalar.TheVariants.{Bool as BoolScalar}
+use Rattle.bool_run.specs.declared.values.Sort.{Sort}
+use Rattle.bool_run.specs.declared.values.Sort.TheVariants.{Scalar as ScalarSort}
+use Rattle.bool_run.specs.declared.values.Atom.TheVariants.{Bool as BoolAtom}
+use Rattle.bool_run.specs.declared.exprs.Var.TheVariants.{Global}
+use Rattle.bool_run.specs.declared.exprs.UnOp.TheVariants.{Not as NotOp}
+use Rattle.bool_run.specs.declared.exprs.ExprNode.{ExprNode}
+use Rattle.bool_run.specs.declared.exprs.ExprNode.TheVariants.{Lit, Var as VarNode, Unary}
+use Rattle.bool_run.specs.declared.prog.Named.{Named}
+use Rattle.bool_run.specs.declared.prog.Cmd.{Cmd}
+use Rattle.bool_run.specs.declared.prog.Cmd.TheVariants.{Assume as AssumeCmd, Assert as AssertCmd}
+use Rattle.bool_run.specs.declared.prog.Next.TheVariants.{Return}
+use Rattle.bool_run.specs.Program.{Program}
 
 -- ---- globals
 

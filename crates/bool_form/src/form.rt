@@ -1,14 +1,14 @@
 //! The program of a tree.
 ghost use Rattle.std.specs.Prelude.{◌≡◌, ◌+◌, ◌<◌, ◌≤◌, ◌^◌, [], IfOk, IfSome, IsTrue, length, ℕ};
 ghost use Rattle.std.specs.List.{list_all};
-ghost use Rattle.src_run.specs.Shape.{cmd_is_declared, expr_is_declared};
+ghost use Rattle.bool_run.specs.Shape.{cmd_is_declared, expr_is_declared};
 ghost use Rattle.bool_form.specs.Form as spec;
 
+use bool_run::exprs::{Expr, UnOp, Var};
+use bool_run::prog::{Cmd, Named, Next, Prog, SrcBlock, SrcProc};
+use bool_run::values::{Atom, Scalar, Sort};
 use bpl_ast::{Ast, Body, Decl, Expr as Tree, Group, Name, Procedure, Sort as SortTree, Stmt};
 use sqlite_items::Items;
-use src_run::exprs::{Expr, UnOp, Var};
-use src_run::prog::{Cmd, Named, Next, Prog, SrcBlock, SrcProc};
-use src_run::values::{Atom, Scalar, Sort};
 use std::alloc::{AllocError, Global};
 
 const BOOL: Sort = Sort::Scalar(Scalar::Bool);

@@ -1,3 +1,5 @@
-pub mod Shapes
-pub mod Runs
+pub mod Environments
+pub mod Plainly
 pub mod Rows
+pub mod Runs
+pub mod Starting

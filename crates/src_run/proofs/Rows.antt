@@ -1,71 +1,86 @@
--- Three small programs on their lists of choices.
-use Rattle.std.proofs.Common.{◌≡◌, true, false, List, [], ◌∷◌, Some, refl}
-use Rattle.std.specs.Prelude.{codes}
-use Rattle.src_run.specs.declared.values.Scalar.TheVariants.{Bool as BoolScalar}
-use Rattle.src_run.specs.declared.values.Sort.TheVariants.{Scalar as ScalarSort}
-use Rattle.src_run.specs.declared.values.Atom.TheVariants.{Bool as BoolAtom}
-use Rattle.src_run.specs.declared.exprs.Var.TheVariants.{Global}
-use Rattle.src_run.specs.declared.exprs.ExprNode.{ExprNode}
-use Rattle.src_run.specs.declared.exprs.ExprNode.TheVariants.{Lit, Var as VarNode}
-use Rattle.src_run.specs.declared.prog.Cmd.{Cmd}
-use Rattle.src_run.specs.declared.prog.Cmd.TheVariants.{Assume, Assert}
-use Rattle.src_run.specs.declared.prog.Next.TheVariants.{Return}
-use Rattle.src_run.specs.declared.machine.Choice.TheVariants.{Go, Val}
-use Rattle.src_run.specs.declared.machine.Status.TheVariants.{Going, Ended, Failed, Blocked, BadChoice}
-use Rattle.src_run.specs.declared.prog.Named.{Named}
-use Rattle.src_run.specs.Eval.{bool_value}
-use Rattle.src_run.specs.Program.{Program}
-use Rattle.src_run.specs.Shape.{number_of}
-use Rattle.src_run.specs.Machine.{status_of}
+-- The machine on small programs, computed.
+use Rattle.std.proofs.Common.{ℕ, true, false, List, [], ◌∷◌, refl, codes}
+use Rattle.hy_val.specs.declared.expr.ExprNode.{ExprNode}
+use Rattle.hy_val.specs.declared.expr.ExprNode.TheVariants.{Var as Read, Unary}
+use Rattle.hy_val.specs.declared.expr.Var.TheVariants.{Global, Local}
+use Rattle.hy_val.specs.declared.operator.UnOp.TheVariants.{Not}
+use Rattle.hy_val.specs.declared.sort.ScalarKind.TheVariants.{Bool as BoolSort}
+use Rattle.hy_val.specs.declared.sort.Sort.{Sort}
+use Rattle.hy_val.specs.declared.sort.SortKind.TheVariants.{Scalar as ScalarSort}
+use Rattle.src_prog.specs.Program.{Program}
+use Rattle.src_prog.specs.declared.block.Cmd.{Cmd}
+use Rattle.src_prog.specs.declared.block.Cmd.TheVariants.{Assign, Havoc, Assume, Assert, Call}
+use Rattle.src_prog.specs.declared.block.Next.TheVariants.{Goto, Return}
+use Rattle.src_prog.specs.declared.block.SrcBlock.{SrcBlock}
+use Rattle.src_prog.specs.declared.proc.Named.{Named}
+use Rattle.src_prog.specs.declared.proc.SrcLoop.{SrcLoop}
+use Rattle.src_prog.specs.declared.proc.SrcProc.{SrcProc}
+use Rattle.src_run.specs.declared.machine.Choice.TheVariants.{Go}
+use Rattle.src_run.specs.declared.machine.Status.TheVariants.{Going, Ended, Failed, Blocked, Cut, BadChoice}
+use Rattle.src_run.specs.Machine.{HasStatus}
+use Rattle.src_run.specs.Search.{bool_choice}
 
--- the program of these globals whose one procedure, main, has one block of these commands
-abbrev main_of : List Named → List Cmd → Program
-main_of globals cmds = record { globals = globals; procs = record { name = codes "main"; blocks = record { cmds = cmds; next = Return } ∷ [] } ∷ [] }
+abbrev bool : Sort
+bool = ScalarSort BoolSort
 
-abbrev b_declared : List Named
-b_declared = record { name = codes "b"; sort = ScalarSort BoolScalar } ∷ []
+abbrev b : List ExprNode
+b = Read (Global 0) bool ∷ []
 
-abbrev reads_b : List ExprNode
-reads_b = VarNode (Global 0) (ScalarSort BoolScalar) ∷ []
+abbrev not_b : List ExprNode
+not_b = Read (Global 0) bool ∷ Unary Not 0 ∷ []
 
--- var b: bool; procedure main() { assert b; }
-abbrev asserts_b : Program
-asserts_b = main_of b_declared (Assert 1 reads_b ∷ [])
+abbrev name : List ℕ → Named
+name text = record { name = text; sort = bool }
 
-asserts_b-none : status_of asserts_b 0 1 [] ≡ Going
-asserts_b-none = refl
+abbrev proc : List ℕ → List Named → List Named → List SrcBlock → List SrcLoop → SrcProc
+proc text ins outs blocks loops = record { name = text; ins = ins; outs = outs; locals = []; blocks = blocks; loops = loops }
 
-asserts_b-false : status_of asserts_b 0 1 (Val (bool_value false) ∷ []) ≡ Failed 0 1
-asserts_b-false = refl
+abbrev returns : List Cmd → SrcBlock
+returns cmds = record { cmds = cmds; next = Return }
 
-asserts_b-true : status_of asserts_b 0 1 (Val (bool_value true) ∷ []) ≡ Ended
-asserts_b-true = refl
+abbrev goes : List Cmd → List ℕ → SrcBlock
+goes cmds targets = record { cmds = cmds; next = Goto targets }
 
-asserts_b-place : status_of asserts_b 0 1 (Go 0 ∷ []) ≡ BadChoice 0
-asserts_b-place = refl
+abbrev prog : List SrcProc → Program
+prog procs = record { consts = []; uniques = []; axioms = []; globals = name (codes "b") ∷ []; procs = procs }
 
-asserts_b-late : status_of asserts_b 0 1 (Val (bool_value false) ∷ Val (bool_value false) ∷ Go 0 ∷ []) ≡ BadChoice 1
-asserts_b-late = refl
+-- var b: bool; procedure main() { havoc b; assert b; }
+abbrev havocs : Program
+havocs = prog (proc (codes "main") [] [] (returns (Havoc (Global 0 ∷ []) ∷ Assert 1 b ∷ []) ∷ []) [] ∷ [])
 
-asserts_b-main : number_of asserts_b (codes "main") ≡ Some 0
-asserts_b-main = refl
+havoc_fails : HasStatus havocs 0 1 (bool_choice true ∷ bool_choice false ∷ []) (Failed 0 1)
+havoc_fails = record { turns = 9; last = _; runs = refl; is = refl }
 
--- var b: bool; procedure main() { assume b; assert b; }
-abbrev assumes_b : Program
-assumes_b = main_of b_declared (Assume reads_b ∷ Assert 1 reads_b ∷ [])
+havoc_ends : HasStatus havocs 0 1 (bool_choice true ∷ bool_choice true ∷ []) Ended
+havoc_ends = record { turns = 9; last = _; runs = refl; is = refl }
 
-assumes_b-false : status_of assumes_b 0 1 (Val (bool_value false) ∷ []) ≡ Blocked
-assumes_b-false = refl
+havoc_asks : HasStatus havocs 0 1 (bool_choice true ∷ []) Going
+havoc_asks = record { turns = 9; last = _; runs = refl; is = refl }
 
-assumes_b-true : status_of assumes_b 0 1 (Val (bool_value true) ∷ []) ≡ Ended
-assumes_b-true = refl
+-- procedure p(x: bool) returns (y: bool) { y := !x; } procedure main() { call b := p(b); assert b; }
+abbrev calls : Program
+calls =
+    prog (proc (codes "p") (name (codes "x") ∷ []) (name (codes "y") ∷ []) (returns (Assign ((Local 1, Read (Local 0) bool ∷ Unary Not 0 ∷ []) ∷ []) ∷ []) ∷ []) []
+    ∷ proc (codes "main") [] [] (returns (Call 0 (b ∷ []) (Global 0 ∷ []) ∷ Assert 1 b ∷ []) ∷ []) [] ∷ [])
 
--- procedure main() { assert false; assume false; }
-abbrev asserts_false : Program
-asserts_false = main_of [] (Assert 1 (Lit (BoolAtom false) ∷ []) ∷ Assume (Lit (BoolAtom false) ∷ []) ∷ [])
+call_ends : HasStatus calls 1 1 (bool_choice false ∷ bool_choice false ∷ []) Ended
+call_ends = record { turns = 12; last = _; runs = refl; is = refl }
 
-asserts_false-none : status_of asserts_false 0 1 [] ≡ Failed 0 1
-asserts_false-none = refl
+call_fails : HasStatus calls 1 1 (bool_choice true ∷ bool_choice false ∷ []) (Failed 1 1)
+call_fails = record { turns = 12; last = _; runs = refl; is = refl }
 
-asserts_false-late : status_of asserts_false 0 1 (Val (bool_value true) ∷ []) ≡ BadChoice 0
-asserts_false-late = refl
+-- procedure main() { while (b) { } assert !b; } with one block for each part
+abbrev loops : Program
+loops = prog (proc (codes "main") [] [] (goes [] (1 ∷ []) ∷ goes [] (2 ∷ 3 ∷ []) ∷ goes (Assume b ∷ []) (1 ∷ []) ∷ returns (Assume not_b ∷ Assert 1 b ∷ []) ∷ []) (record { head = 1; exit = 3 } ∷ []) ∷ [])
+
+loop_cut : HasStatus loops 0 1 (bool_choice true ∷ Go 0 ∷ Go 0 ∷ []) Cut
+loop_cut = record { turns = 16; last = _; runs = refl; is = refl }
+
+loop_blocked : HasStatus loops 0 1 (bool_choice true ∷ Go 0 ∷ Go 1 ∷ []) Blocked
+loop_blocked = record { turns = 16; last = _; runs = refl; is = refl }
+
+loop_fails : HasStatus loops 0 1 (bool_choice false ∷ Go 1 ∷ []) (Failed 0 1)
+loop_fails = record { turns = 16; last = _; runs = refl; is = refl }
+
+loop_bad : HasStatus loops 0 1 (bool_choice false ∷ Go 2 ∷ []) (BadChoice 1)
+loop_bad = record { turns = 16; last = _; runs = refl; is = refl }

@@ -1,185 +1,102 @@
 -- Laws of runs.
-use Rattle.std.proofs.Common.{◌≡◌, ℕ, suc, ◌+◌, ◌<◌, ◌≤◌, true, false, if◌then◌else◌, List, [], ◌∷◌, ◌++◌, length, drop, get_or, slice_get, Option, None, Some, arith, sym, ◌∙◌, ap, refl, append_assoc, length-append, length-drop, subst, add-one, ◌-◌, inl, inr}
-use Rattle.std.proofs.Math.Seq.{drop-cons}
-use Rattle.std.proofs.lemmas.List.{append-nil, drop_all}
-use Rattle.src_run.specs.declared.values.Atom.TheVariants.{Bool as BoolAtom}
-use Rattle.src_run.specs.declared.values.Value.{Value}
-use Rattle.src_run.specs.declared.values.Value.TheVariants.{Atom as AtomValue}
-use Rattle.src_run.specs.declared.exprs.ExprNode.{ExprNode}
-use Rattle.src_run.specs.declared.exprs.Env.{Env}
-use Rattle.src_run.specs.declared.prog.Named.{Named}
-use Rattle.src_run.specs.declared.prog.Cmd.{Cmd}
-use Rattle.src_run.specs.declared.prog.Cmd.TheVariants.{Assume, Assert}
-use Rattle.src_run.specs.declared.prog.Next.{Next}
-use Rattle.src_run.specs.declared.prog.Next.TheVariants.{Return}
-use Rattle.src_run.specs.declared.prog.SrcBlock.{SrcBlock}
-use Rattle.src_run.specs.declared.prog.SrcProc.{SrcProc}
+use Rattle.std.proofs.Common.{◌≡◌, ℕ, zero, suc, ◌+◌, Bool, true, false, List, [], ◌∷◌, ◌++◌, length, None, Some, arith, sym, ◌∙◌, ap, refl, append_assoc, subst, inl, inr}
+use Rattle.std.proofs.lemmas.List.{append-nil, map-append}
+use Rattle.hy_val.specs.Values.{has_sort}
+use Rattle.hy_val.specs.declared.atom.AtomKind.TheVariants.{Bool as BoolAtom, Bv as BvAtom}
+use Rattle.hy_val.specs.declared.sort.Sort.{Sort}
+use Rattle.hy_val.specs.declared.value.Value.{Value}
+use Rattle.hy_val.specs.declared.value.Value.TheVariants.{Atom as AtomValue, Map as MapValue}
+use Rattle.src_prog.specs.Program.{Program}
 use Rattle.src_run.specs.declared.machine.Choice.{Choice}
 use Rattle.src_run.specs.declared.machine.Choice.TheVariants.{Go, Val}
 use Rattle.src_run.specs.declared.machine.Status.{Status}
 use Rattle.src_run.specs.declared.machine.Status.TheVariants.{Going, Ended, Failed, Blocked, Cut, BadChoice}
-use Rattle.src_run.specs.Eval.{bool_value, has_sort, holds}
-use Rattle.src_run.specs.Program.{Program}
-use Rattle.src_run.specs.Machine.{Config, Frame, Want, first_frame, further, wants_of, go_on, goes, in_block, in_proc, begin, asked, step, step_at, stands, with_status, run, status_of, Fails}
-use Rattle.src_run.specs.Search.{NoneFrom, FirstFrom, FirstFailing, Precedes}
-use Rattle.src_run.specs.declared.search.Failing.{Failing}
+use Rattle.src_run.specs.Running.{Leads, StandsBehind, bool_value, wants_bool}
+use Rattle.src_run.specs.Search.{NoneFrom, FirstFrom, FirstFailing, Precedes, bool_choice, bool_choices}
+use Rattle.src_run.specs.declared.searching.Failing.{Failing}
+use Rattle.src_run.specs.Machine.{Config, Want, Turn, Stands, GoesOn, tick, take_choice, bad, turn, going, over, after, within, AConst, AGlobal, ALocal, AVariable, ATarget, Comes, HasStatus, Fails, NoneFails, begin}
+use Rattle.src_run.proofs.Environments.{is-bool}
 
--- the entry's frame at a position
-abbrev pub frame_at : ℕ → ℕ → Frame
-frame_at entry at = record { proc = entry; block = 0; at = at; laps = [] }
+-- more turns change nothing
+abbrev MoreTurns : ℕ → Program → ℕ → Type 0
+MoreTurns n prog bound = (index : ℕ) (c : Config) (choices : List Choice) (last : Config) → within n prog bound index c choices ≡ Some last → within (suc n) prog bound index c choices ≡ Some last
 
--- a run that has these values of the first globals and asks for those that are left
-abbrev pub reached : Program → ℕ → List Value → List Named → Config
-reached prog entry globals left = go_on prog globals (first_frame entry ∷ []) (wants_of left)
+more_after : (n : ℕ) (prog : Program) (bound : ℕ) (last : Config) → MoreTurns n prog bound → (t : Turn) → after (λ i d xs. within n prog bound i d xs) t ≡ Some last → after (λ i d xs. within (suc n) prog bound i d xs) t ≡ Some last
+more_after n prog bound last f (Stands d) h = h
+more_after n prog bound last f (GoesOn i d xs) h = f i d xs last h
 
--- the item at an index heads what is left there
-pub rest_at : {A : Type 0} → (xs items : List A) (i : ℕ) (x d : A) → items ≡ xs → i < length items → d ≡ get_or items i d → d ≡ x → drop i xs ≡ x ∷ drop (i + 1) xs
-rest_at xs items i x d same within is e =
-    let cons = drop-cons items i d within in
-    let here : get_or items i d ≡ x = sym is ∙ e in
-    rw (← same, add-one, cons, here) refl
+more_turns : (n : ℕ) (prog : Program) (bound : ℕ) → MoreTurns n prog bound
+more_turns zero prog bound index c choices last h = cc
+more_turns (suc n) prog bound index c choices last h = more_after n prog bound last (more_turns n prog bound) (turn prog bound index c c.status choices) h
 
--- a command whose expression is true is passed
-pub assume_holds : (env : Env) (p i : ℕ) (next : Next) (cmds rest : List Cmd) (expr : List ExprNode) (target : Status) → (goes env.globals (frame_at p i) [] next cmds).status ≡ target → cmds ≡ Assume expr ∷ rest → holds env expr ≡ true → (goes env.globals (frame_at p (i + 1)) [] next rest).status ≡ target
-assume_holds env p i next cmds rest expr target was e h =
-    let now : (if holds env expr then goes env.globals (frame_at p (i + 1)) [] next rest else stands Blocked env.globals (frame_at p i ∷ [])).status ≡ target = sym (ap (λ (cs : List Cmd). (goes env.globals (frame_at p i) [] next cs).status) e) ∙ was in
-    sym (ap (λ b. (if b then goes env.globals (frame_at p (i + 1)) [] next rest else stands Blocked env.globals (frame_at p i ∷ [])).status) h) ∙ now
+turns_more : (k n : ℕ) (prog : Program) (bound index : ℕ) (c : Config) (choices : List Choice) (last : Config) → within n prog bound index c choices ≡ Some last → within (k + n) prog bound index c choices ≡ Some last
+turns_more zero n prog bound index c choices last h = let e : zero + n ≡ n = omega arith in rw e h
+turns_more (suc k) n prog bound index c choices last h =
+    let e : suc k + n ≡ suc (k + n) = omega arith in
+    rw e (more_turns (k + n) prog bound index c choices last (turns_more k n prog bound index c choices last h))
 
-pub assert_holds : (env : Env) (p i number : ℕ) (next : Next) (cmds rest : List Cmd) (expr : List ExprNode) (target : Status) → (goes env.globals (frame_at p i) [] next cmds).status ≡ target → cmds ≡ Assert number expr ∷ rest → holds env expr ≡ true → (goes env.globals (frame_at p (i + 1)) [] next rest).status ≡ target
-assert_holds env p i number next cmds rest expr target was e h =
-    let now : (if holds env expr then goes env.globals (frame_at p (i + 1)) [] next rest else stands (Failed p number) env.globals (frame_at p i ∷ [])).status ≡ target = sym (ap (λ (cs : List Cmd). (goes env.globals (frame_at p i) [] next cs).status) e) ∙ was in
-    sym (ap (λ b. (if b then goes env.globals (frame_at p (i + 1)) [] next rest else stands (Failed p number) env.globals (frame_at p i ∷ [])).status) h) ∙ now
+-- a run comes to stand with one status
+pub one_status : (prog : Program) (bound index : ℕ) (c : Config) (choices : List Choice) (s t : Status) → Comes prog bound index c choices s → Comes prog bound index c choices t → s ≡ t
+one_status prog bound index c choices s t x y =
+    let a = turns_more y.turns x.turns prog bound index c choices x.last x.runs in
+    let b = turns_more x.turns y.turns prog bound index c choices y.last y.runs in
+    let e : y.turns + x.turns ≡ x.turns + y.turns = omega arith in
+    let same : Some x.last ≡ Some y.last = sym a ∙ (ap (λ n. within n prog bound index c choices) e ∙ b) in
+    let l : x.last ≡ y.last = cc in
+    sym x.is ∙ (ap (λ (d : Config). d.status) l ∙ y.is)
 
--- a false assert fails
-pub assert_fails : (env : Env) (p i number : ℕ) (next : Next) (cmds rest : List Cmd) (expr : List ExprNode) (target : Status) → (goes env.globals (frame_at p i) [] next cmds).status ≡ target → cmds ≡ Assert number expr ∷ rest → holds env expr ≡ false → Failed p number ≡ target
-assert_fails env p i number next cmds rest expr target was e h =
-    let now : (if holds env expr then goes env.globals (frame_at p (i + 1)) [] next rest else stands (Failed p number) env.globals (frame_at p i ∷ [])).status ≡ target = sym (ap (λ (cs : List Cmd). (goes env.globals (frame_at p i) [] next cs).status) e) ∙ was in
-    sym (ap (λ b. (if b then goes env.globals (frame_at p (i + 1)) [] next rest else stands (Failed p number) env.globals (frame_at p i ∷ [])).status) h) ∙ now
+-- ---- a run that goes on
 
--- a bad choice stays
-pub bad_stays : (prog : Program) (index first : ℕ) (c : Config) (choices : List Choice) → c.status ≡ BadChoice first → (run prog index c choices).status ≡ BadChoice first
-bad_stays prog index first c [] h = h
-bad_stays prog index first c (x ∷ xs) h =
-    let e : step prog index c x ≡ c = ap (λ s. step_at prog index c s x) h in
-    bad_stays prog (index + 1) first (step prog index c x) xs (ap (λ (d : Config). d.status) e ∙ h)
+pub leads_trans : (prog : Program) (bound i j k : ℕ) (c d e : Config) (xs ys zs : List Choice) → Leads prog bound i c xs j d ys → Leads prog bound j d ys k e zs → Leads prog bound i c xs k e zs
+leads_trans prog bound i j k c d e xs ys zs f g rest s h = f rest s (g rest s h)
 
--- no bad choice so far
-abbrev pub IsFine : Status → Type 0
-IsFine Going = Unit {0}
-IsFine Ended = Unit {0}
-IsFine (Failed p n) = Unit {0}
-IsFine Blocked = Unit {0}
-IsFine Cut = Unit {0}
-IsFine (BadChoice i) = ⊥
+-- a step that takes no choice
+pub leads_tick : (prog : Program) (bound i : ℕ) (c d : Config) (xs : List Choice) → c.status ≡ Going → c.wants ≡ [] → tick prog bound c ≡ d → Leads prog bound i c xs i d xs
+leads_tick prog bound i c d xs going none t rest s h =
+    let one : turn prog bound i c c.status (xs ++ rest) ≡ GoesOn i (tick prog bound c) (xs ++ rest) = rw (going, none) refl in
+    let runs : within (suc h.turns) prog bound i c (xs ++ rest) ≡ Some h.last = rw (one, t) h.runs in
+    record { turns = suc h.turns; last = h.last; runs = runs; is = h.is }
 
--- a run that asks for nothing more
-pub record Settled (c : Config) : Type 0 where
-  pub fine : IsFine c.status
-  pub asks_nothing : c.wants ≡ []
+-- a choice that is taken
+pub leads_choice : (prog : Program) (bound i : ℕ) (c d : Config) (w : Want) (ws : List Want) (x : Choice) (xs : List Choice) → c.status ≡ Going → c.wants ≡ w ∷ ws → take_choice prog bound c i w ws x ≡ d → Leads prog bound i c (x ∷ xs) (i + 1) d xs
+leads_choice prog bound i c d w ws x xs going asks t rest s h =
+    let one : turn prog bound i c c.status (x ∷ (xs ++ rest)) ≡ GoesOn (i + 1) (take_choice prog bound c i w ws x) (xs ++ rest) = rw (going, asks) refl in
+    let runs : within (suc h.turns) prog bound i c (x ∷ (xs ++ rest)) ≡ Some h.last = rw (one, t) h.runs in
+    record { turns = suc h.turns; last = h.last; runs = runs; is = h.is }
 
-goes_settled : (globals : List Value) (f : Frame) (rest : List Frame) (next : Next) (cmds : List Cmd) → Settled (goes globals f rest next cmds)
-goes_settled globals f [] Return [] = record { fine = tt; asks_nothing = refl }
-goes_settled globals f (caller ∷ rest) Return [] = record { fine = tt; asks_nothing = refl }
-goes_settled globals f rest next (Assume expr ∷ cmds) =
-    elim (holds (record { globals = globals }) expr) as (λ b. Settled (if b then goes globals (further f) rest next cmds else stands Blocked globals (f ∷ rest))) [
-      | true ↦ goes_settled globals (further f) rest next cmds
-      | false ↦ record { fine = tt; asks_nothing = refl }
-    ]
-goes_settled globals f rest next (Assert number expr ∷ cmds) =
-    elim (holds (record { globals = globals }) expr) as (λ b. Settled (if b then goes globals (further f) rest next cmds else stands (Failed f.proc number) globals (f ∷ rest))) [
-      | true ↦ goes_settled globals (further f) rest next cmds
-      | false ↦ record { fine = tt; asks_nothing = refl }
-    ]
+pub leads_nowhere : (prog : Program) (bound i : ℕ) (c : Config) (xs : List Choice) → Leads prog bound i c xs i c xs
+leads_nowhere prog bound i c xs rest s h = h
 
-block_settled : (globals : List Value) (f : Frame) (rest : List Frame) (block : Option SrcBlock) → Settled (in_block globals f rest block)
-block_settled globals f rest None = record { fine = tt; asks_nothing = refl }
-block_settled globals f rest (Some block) = goes_settled globals f rest block.next (drop f.at block.cmds)
+-- where the run stands behind what it led to, it stands
+pub stands_behind : (prog : Program) (bound i j : ℕ) (c d : Config) (xs ys : List Choice) (s : Status) → Leads prog bound i c xs j d ys → j + length ys ≡ i + length xs → StandsBehind prog bound j d ys s → StandsBehind prog bound i c xs s
+stands_behind prog bound i j c d xs ys s f e h =
+    record { last = h.last; leads = λ rest t g. f rest t (h.leads rest t (rw e g)); is = h.is; asks = h.asks }
 
-proc_settled : (globals : List Value) (f : Frame) (rest : List Frame) (proc : Option SrcProc) → Settled (in_proc globals f rest proc)
-proc_settled globals f rest None = record { fine = tt; asks_nothing = refl }
-proc_settled globals f rest (Some proc) = block_settled globals f rest (slice_get proc.blocks f.block)
+-- ---- lists of choices
 
--- a choice that comes where nothing is asked for is a bad one
-late_step : (prog : Program) (index : ℕ) (c : Config) (s : Status) (x : Choice) → c.wants ≡ [] → IsFine s → (step_at prog index c s x).status ≡ BadChoice index
-late_step prog index c Going x h fine = ap (λ (ws : List Want). (asked prog index c ws x).status) h
-late_step prog index c Ended x h fine = refl
-late_step prog index c (Failed p n) x h fine = refl
-late_step prog index c Blocked x h fine = refl
-late_step prog index c Cut x h fine = refl
-late_step prog index c (BadChoice i) x h fine = absurd fine
-
--- so is the first choice behind the values of all globals
-pub late_choice : (prog : Program) (entry index : ℕ) (globals : List Value) (x : Choice) (xs : List Choice) → (run prog index (reached prog entry globals []) (x ∷ xs)).status ≡ BadChoice index
-late_choice prog entry index globals x xs =
-    let c = reached prog entry globals [] in
-    let over : Settled c = proc_settled globals (first_frame entry) [] (slice_get prog.procs entry) in
-    bad_stays prog (index + 1) index (step prog index c x) xs (late_step prog index c c.status x over.asks_nothing over.fine)
-
--- the status by the run from where the first choices led: behind the values of all globals
-pub status_late : (prog : Program) (entry bound index : ℕ) (globals : List Value) (choices : List Choice) → run prog index (reached prog entry globals (drop index prog.globals)) (drop index choices) ≡ run prog 0 (begin prog entry) choices → length prog.globals ≤ index → index < length choices → BadChoice index ≡ status_of prog entry bound choices
-status_late prog entry bound index globals [] is late within = absurd (omega arith)
-status_late prog entry bound index globals (x ∷ xs) is late within =
-    let none : drop index prog.globals ≡ [] = drop_all index prog.globals late in
-    let here : drop index (x ∷ xs) ≡ get_or (x ∷ xs) index x ∷ drop (suc index) (x ∷ xs) = drop-cons (x ∷ xs) index x within in
-    let bad = late_choice prog entry index globals (get_or (x ∷ xs) index x) (drop (suc index) (x ∷ xs)) in
-    let same : run prog index (reached prog entry globals (drop index prog.globals)) (drop index (x ∷ xs)) ≡ run prog index (reached prog entry globals []) (get_or (x ∷ xs) index x ∷ drop (suc index) (x ∷ xs)) = rw (none, here) refl in
-    sym (ap (λ (c : Config). c.status) (sym is ∙ same) ∙ bad)
-
--- a place where a value is asked for is a bad choice
-pub status_place : (prog : Program) (entry bound index place : ℕ) (globals : List Value) (choices : List Choice) (d : Choice) → run prog index (reached prog entry globals (drop index prog.globals)) (drop index choices) ≡ run prog 0 (begin prog entry) choices → index < length prog.globals → index < length choices → get_or choices index d ≡ Go place → BadChoice index ≡ status_of prog entry bound choices
-status_place prog entry bound index place globals choices d is within here at =
-    let now : drop index choices ≡ Go place ∷ drop (suc index) choices = drop-cons choices index d here ∙ ap (λ y. y ∷ drop (suc index) choices) at in
-    let same = ap (λ xs. (run prog index (reached prog entry globals (drop index prog.globals)) xs).status) now in
-    sym (sym (ap (λ (c : Config). c.status) is) ∙ same ∙ place_bad (drop index prog.globals) (length-drop index prog.globals) within (drop (suc index) choices))
+-- a run that asks for a bool, or is over, stands where no choice is left
+stands_now : (prog : Program) (bound i : ℕ) (d : Config) → (d.status ≡ Going → wants_bool d.wants ≡ true) → turn prog bound i d d.status [] ≡ Stands d
+stands_now prog bound i d asks = at d.status d.wants refl asks
   where
-    place_bad : (left : List Named) → length left ≡ length prog.globals - index → index < length prog.globals → (xs : List Choice) → (run prog index (reached prog entry globals left) (Go place ∷ xs)).status ≡ BadChoice index
-    place_bad [] e h xs = absurd (omega arith)
-    place_bad (g ∷ gs) e h xs = bad_stays prog (index + 1) index (step prog index (reached prog entry globals (g ∷ gs)) (Go place)) xs refl
+    at : (s : Status) (ws : List Want) → d.wants ≡ ws → (s ≡ Going → wants_bool d.wants ≡ true) → turn prog bound i d s [] ≡ Stands d
+    at Going [] e a = let w : wants_bool [] ≡ true = sym (ap wants_bool e) ∙ a refl in cc
+    at Going (w ∷ ws) e a = rw e refl
+    at Ended ws e a = refl
+    at (Failed p n) ws e a = refl
+    at Blocked ws e a = refl
+    at Cut ws e a = refl
+    at (BadChoice k) ws e a = refl
 
--- behind the last choice
-pub status_end : (prog : Program) (entry bound index : ℕ) (globals : List Value) (choices : List Choice) → run prog index (reached prog entry globals (drop index prog.globals)) (drop index choices) ≡ run prog 0 (begin prog entry) choices → length choices ≤ index → (reached prog entry globals (drop index prog.globals)).status ≡ status_of prog entry bound choices
-status_end prog entry bound index globals choices is over =
-    let none : drop index choices ≡ [] = drop_all index choices over in
-    let e : run prog index (reached prog entry globals (drop index prog.globals)) (drop index choices) ≡ reached prog entry globals (drop index prog.globals) = rw none refl in
-    ap (λ (c : Config). c.status) (sym e ∙ is)
+-- a run that stands behind its choices has that status after them
+pub stands_status : (prog : Program) (bound index : ℕ) (c : Config) (choices : List Choice) (s : Status) → StandsBehind prog bound index c choices s → Comes prog bound index c choices s
+stands_status prog bound index c choices s h =
+    let now = stands_now prog bound (index + length choices) h.last (λ g. h.asks (sym h.is ∙ g)) in
+    let there : within 1 prog bound (index + length choices) h.last [] ≡ Some h.last = rw now refl in
+    subst (λ xs. Comes prog bound index c xs s) (append-nil choices) (h.leads [] s (record { turns = 1; last = h.last; runs = there; is = h.is }))
 
--- which asks as long as a global has no value
-pub status_asks : (prog : Program) (entry bound index : ℕ) (globals : List Value) (choices : List Choice) → run prog index (reached prog entry globals (drop index prog.globals)) (drop index choices) ≡ run prog 0 (begin prog entry) choices → length choices ≤ index → index < length prog.globals → Going ≡ status_of prog entry bound choices
-status_asks prog entry bound index globals choices is over within =
-    asks_at (drop index prog.globals) (length-drop index prog.globals) within ∙ status_end prog entry bound index globals choices is over
-  where
-    asks_at : (left : List Named) → length left ≡ length prog.globals - index → index < length prog.globals → Going ≡ (reached prog entry globals left).status
-    asks_at [] e h = absurd (omega arith)
-    asks_at (g ∷ gs) e h = refl
-
--- a list on which a run fails has a value for each global, and nothing else
-abbrev pub AllValues : List Choice → Type 0
-AllValues [] = Unit {0}
-AllValues (Val v ∷ xs) = AllValues xs
-AllValues (Go place ∷ xs) = ⊥
-
-fails_shape : (prog : Program) (entry index proc number : ℕ) (globals : List Value) (left : List Named) (choices : List Choice) → (run prog index (reached prog entry globals left) choices).status ≡ Failed proc number → (length choices ≡ length left) × AllValues choices
-fails_shape prog entry index proc number globals [] [] f = (refl, tt)
-fails_shape prog entry index proc number globals (g ∷ gs) [] f = cc
-fails_shape prog entry index proc number globals [] (x ∷ xs) f = let late = late_choice prog entry index globals x xs in cc
-fails_shape prog entry index proc number globals (g ∷ gs) (Go place ∷ xs) f =
-    let bad = bad_stays prog (index + 1) index (step prog index (reached prog entry globals (g ∷ gs)) (Go place)) xs refl in cc
-fails_shape prog entry index proc number globals (g ∷ gs) (Val v ∷ xs) f =
-    (elim (has_sort v g.sort) as (λ b. (run prog (index + 1) (if b then reached prog entry (globals ++ v ∷ []) gs else with_status (reached prog entry globals (g ∷ gs)) (BadChoice index)) xs).status ≡ Failed proc number → (suc (length xs) ≡ suc (length gs)) × AllValues xs) [
-      | true ↦ λ h. let rest = fails_shape prog entry (index + 1) proc number (globals ++ v ∷ []) gs xs h in (ap suc rest.0, rest.1)
-      | false ↦ λ h. let bad = bad_stays prog (index + 1) index (with_status (reached prog entry globals (g ∷ gs)) (BadChoice index)) xs refl in cc
-    ]) f
-
-pub fails_count : (prog : Program) (entry bound : ℕ) (choices : List Choice) → Fails prog entry bound choices → length choices ≡ length prog.globals
-fails_count prog entry bound choices (p, n, f) = (fails_shape prog entry 0 p n [] prog.globals choices f).0
-
-no_place : (given : List Choice) (place : ℕ) (rest : List Choice) → AllValues (given ++ Go place ∷ rest) → ⊥
-no_place [] place rest h = h
-no_place (Val v ∷ given) place rest h = no_place given place rest h
-no_place (Go p ∷ given) place rest h = h
-
-pub fails_values : (prog : Program) (entry bound : ℕ) (given : List Choice) (place : ℕ) (rest : List Choice) → Fails prog entry bound (given ++ Go place ∷ rest) → ⊥
-fails_values prog entry bound given place rest (p, n, f) = no_place given place rest (fails_shape prog entry 0 p n [] prog.globals (given ++ Go place ∷ rest) f).1
+-- the bad choice of a run that does not go on, or is given another choice than a bool
+bad_next : (prog : Program) (bound i : ℕ) (d : Config) (x : Choice) (xs : List Choice) → (j : ℕ) → turn prog bound i d d.status (x ∷ xs) ≡ Stands (bad j d) → Comes prog bound i d (x ∷ xs) (BadChoice j)
+bad_next prog bound i d x xs j e = record { turns = 1; last = bad j d; runs = rw e refl; is = refl }
 
 -- the status isn't Failed
 abbrev pub IsNoFailure : Status → Type 0
@@ -198,73 +115,131 @@ no_failure Blocked p n h e = cc
 no_failure Cut p n h e = cc
 no_failure (BadChoice i) p n h e = cc
 
--- a list with a value for each global that does not fail is the beginning of none that fails
-pub full_none : (prog : Program) (entry bound : ℕ) (given : List Choice) (s : Status) → s ≡ status_of prog entry bound given → IsNoFailure s → length given ≡ length prog.globals → NoneFrom prog entry bound given
-full_none prog entry bound given s is fine full [] (p, n, f) = no_failure s p n fine (is ∙ (ap (status_of prog entry bound) (sym (append-nil given)) ∙ f))
-full_none prog entry bound given s is fine full (x ∷ xs) f =
-    let count = fails_count prog entry bound (given ++ (x ∷ xs)) f in
-    let longer = length-append given (x ∷ xs) in
-    absurd (omega arith)
+-- a run that is over has a bad choice where one more stands
+bad_behind : (prog : Program) (bound i : ℕ) (d : Config) (s : Status) (x : Choice) (xs : List Choice) → d.status ≡ s → (s ≡ Going → ⊥) → (j : ℕ) × Comes prog bound i d (x ∷ xs) (BadChoice j)
+bad_behind prog bound i d Going x xs e g = absurd (g refl)
+bad_behind prog bound i d Ended x xs e g = (i, bad_next prog bound i d x xs i (ap (λ u. turn prog bound i d u (x ∷ xs)) e))
+bad_behind prog bound i d (Failed p n) x xs e g = (i, bad_next prog bound i d x xs i (ap (λ u. turn prog bound i d u (x ∷ xs)) e))
+bad_behind prog bound i d Blocked x xs e g = (i, bad_next prog bound i d x xs i (ap (λ u. turn prog bound i d u (x ∷ xs)) e))
+bad_behind prog bound i d Cut x xs e g = (i, bad_next prog bound i d x xs i (ap (λ u. turn prog bound i d u (x ∷ xs)) e))
+bad_behind prog bound i d (BadChoice k) x xs e g = (k, record { turns = 1; last = d; runs = (let f : turn prog bound i d d.status (x ∷ xs) ≡ Stands d = ap (λ u. turn prog bound i d u (x ∷ xs)) e in rw f refl); is = e })
 
--- where neither value of the next global leads to a failure, nothing does
-pub both_none : (prog : Program) (entry bound : ℕ) (given with_false with_true : List Choice) → length given < length prog.globals → with_false ≡ given ++ Val (bool_value false) ∷ [] → NoneFrom prog entry bound with_false → with_true ≡ given ++ Val (bool_value true) ∷ [] → NoneFrom prog entry bound with_true → NoneFrom prog entry bound given
-both_none prog entry bound given with_false with_true short e no_false f no_true [] fails =
-    let count = fails_count prog entry bound (given ++ []) fails in
-    let same = ap length (append-nil given) in
-    absurd (omega arith)
-both_none prog entry bound given with_false with_true short e no_false f no_true (Go place ∷ xs) fails = fails_values prog entry bound given place xs fails
-both_none prog entry bound given with_false with_true short e no_false f no_true (Val (AtomValue (BoolAtom false)) ∷ xs) fails =
-    no_false xs (subst (Fails prog entry bound) (sym (append_assoc given (Val (bool_value false) ∷ []) xs) ∙ ap (λ ys. ys ++ xs) (sym e)) fails)
-both_none prog entry bound given with_false with_true short e no_false f no_true (Val (AtomValue (BoolAtom true)) ∷ xs) fails =
-    no_true xs (subst (Fails prog entry bound) (sym (append_assoc given (Val (bool_value true) ∷ []) xs) ∙ ap (λ ys. ys ++ xs) (sym f)) fails)
+abbrev pub RunsOf : Program → ℕ → ℕ → List Bool → Status → Type 0
+RunsOf prog entry bound given s = StandsBehind prog bound 0 (begin prog entry) (bool_choices given) s
+
+-- a list on which the run does not go on is the beginning of no failing one
+pub none_behind : (prog : Program) (entry bound : ℕ) (given : List Bool) (s : Status) → RunsOf prog entry bound given s → IsNoFailure s → (s ≡ Going → ⊥) → NoneFrom prog entry bound (bool_choices given)
+none_behind prog entry bound given s h fine over [] (p, n, f) =
+    let is = stands_status prog bound 0 (begin prog entry) (bool_choices given) s h in
+    let fails = subst (λ xs. HasStatus prog entry bound xs (Failed p n)) (append-nil (bool_choices given)) f in
+    no_failure s p n fine (one_status prog bound 0 (begin prog entry) (bool_choices given) s (Failed p n) is fails)
+none_behind prog entry bound given s h fine over (x ∷ xs) (p, n, f) =
+    let b = bad_behind prog bound (0 + length (bool_choices given)) h.last s x xs h.is over in
+    let is = h.leads (x ∷ xs) (BadChoice b.0) b.1 in
+    let same : BadChoice b.0 ≡ Failed p n = one_status prog bound 0 (begin prog entry) (bool_choices given ++ (x ∷ xs)) (BadChoice b.0) (Failed p n) is f in cc
 
 -- a failing list is the first of those that begin with all of its choices
-pub full_first : (prog : Program) (entry bound : ℕ) (given : List Choice) (f : Failing) → f.choices ≡ given → Failed f.proc f.assert ≡ status_of prog entry bound given → FirstFrom prog entry bound given f
-full_first prog entry bound given f e is =
-    record { rest = []; begins = e ∙ sym (append-nil given); fails = ap (status_of prog entry bound) e ∙ sym is; first = λ earlier before g. nothing_before earlier before }
+pub full_first : (prog : Program) (entry bound : ℕ) (given : List Bool) (f : Failing) → f.choices ≡ bool_choices given → RunsOf prog entry bound given (Failed f.proc f.assert) → FirstFrom prog entry bound (bool_choices given) f
+full_first prog entry bound given f e h =
+    record {
+      rest = [];
+      begins = e ∙ sym (append-nil (bool_choices given));
+      fails = subst (λ xs. HasStatus prog entry bound xs (Failed f.proc f.assert)) (sym e) (stands_status prog bound 0 (begin prog entry) (bool_choices given) (Failed f.proc f.assert) h);
+      first = λ earlier before g. nothing_before earlier before;
+    }
   where
     nothing_before : (earlier : List Choice) → Precedes earlier [] → ⊥
     nothing_before [] h = h
     nothing_before (x ∷ xs) h = h
 
--- what is first behind false is first
-pub false_first : (prog : Program) (entry bound : ℕ) (given with_false : List Choice) (f : Failing) → with_false ≡ given ++ Val (bool_value false) ∷ [] → FirstFrom prog entry bound with_false f → FirstFrom prog entry bound given f
-false_first prog entry bound given with_false f e h =
-    record {
-      rest = Val (bool_value false) ∷ h.rest;
-      begins = h.begins ∙ (ap (λ ys. ys ++ h.rest) e ∙ append_assoc given (Val (bool_value false) ∷ []) h.rest);
-      fails = h.fails;
-      first = before;
-    }
+-- ---- one bool more
+
+-- the choice is no bool
+abbrev pub IsNoBool : Choice → Type 0
+IsNoBool (Go place) = Unit {0}
+IsNoBool (Val (AtomValue (BoolAtom b))) = ⊥
+IsNoBool (Val (AtomValue (BvAtom v))) = Unit {0}
+IsNoBool (Val (MapValue m)) = Unit {0}
+
+no_sort : (v : Value) (s : Sort) → has_sort (bool_value true) s ≡ true → IsNoBool (Val v) → has_sort v s ≡ false
+no_sort (AtomValue (BoolAtom b)) s h n = absurd n
+no_sort (AtomValue (BvAtom b)) s h n = let e = is-bool s h in rw e refl
+no_sort (MapValue m) s h n = let e = is-bool s h in rw e refl
+
+bad_want : (prog : Program) (bound i : ℕ) (d : Config) (w : Want) (ws : List Want) (x : Choice) → wants_bool (w ∷ ws) ≡ true → IsNoBool x → take_choice prog bound d i w ws x ≡ bad i d
+bad_want prog bound i d (AConst s) ws x h n = cc
+bad_want prog bound i d (AGlobal s) ws (Go place) h n = refl
+bad_want prog bound i d (AGlobal s) ws (Val v) h n = let e = no_sort v s h n in rw e refl
+bad_want prog bound i d (ALocal s) ws (Go place) h n = refl
+bad_want prog bound i d (ALocal s) ws (Val v) h n = let e = no_sort v s h n in rw e refl
+bad_want prog bound i d (AVariable y None) ws x h n = cc
+bad_want prog bound i d (AVariable y (Some s)) ws (Go place) h n = refl
+bad_want prog bound i d (AVariable y (Some s)) ws (Val v) h n = let e = no_sort v s h n in rw e refl
+bad_want prog bound i d (ATarget ts) ws x h n = cc
+
+-- a run that asks for a bool has a bad choice where another choice stands
+bad_asked : (prog : Program) (bound i : ℕ) (d : Config) (x : Choice) (xs : List Choice) → d.status ≡ Going → wants_bool d.wants ≡ true → IsNoBool x → Comes prog bound i d (x ∷ xs) (BadChoice i)
+bad_asked prog bound i d x xs e h n = at d.wants refl h
   where
-    before : (earlier : List Choice) → Precedes earlier (Val (bool_value false) ∷ h.rest) → Fails prog entry bound (given ++ earlier) → ⊥
+    at : (ws : List Want) → d.wants ≡ ws → wants_bool ws ≡ true → Comes prog bound i d (x ∷ xs) (BadChoice i)
+    at [] f k = cc
+    at (w ∷ ws) f k =
+        let one : turn prog bound i d d.status (x ∷ xs) ≡ GoesOn (i + 1) (take_choice prog bound d i w ws x) xs = ap (λ u. turn prog bound i d u (x ∷ xs)) e ∙ ap (λ us. going prog bound i d us (x ∷ xs)) f in
+        let taken = bad_want prog bound i d w ws x k n in
+        let goes : turn prog bound i d d.status (x ∷ xs) ≡ GoesOn (i + 1) (bad i d) xs = one ∙ ap (λ c. GoesOn (i + 1) c xs) taken in
+        record { turns = 2; last = bad i d; runs = rw goes refl; is = refl }
+
+pub no_other : (prog : Program) (entry bound : ℕ) (given : List Bool) (x : Choice) (xs : List Choice) → RunsOf prog entry bound given Going → IsNoBool x → Fails prog entry bound (bool_choices given ++ (x ∷ xs)) → ⊥
+no_other prog entry bound given x xs h n (p, m, f) =
+    let is = h.leads (x ∷ xs) _ (bad_asked prog bound (0 + length (bool_choices given)) h.last x xs h.is (h.asks refl) n) in
+    let same : BadChoice (0 + length (bool_choices given)) ≡ Failed p m = one_status prog bound 0 (begin prog entry) (bool_choices given ++ (x ∷ xs)) _ (Failed p m) is f in cc
+
+one_more : (given with_one : List Bool) (b : Bool) → with_one ≡ given ++ b ∷ [] → bool_choices with_one ≡ bool_choices given ++ bool_choice b ∷ []
+one_more given with_one b e = ap bool_choices e ∙ map-append bool_choice given (b ∷ [])
+
+behind_is : (given with_one : List Bool) (b : Bool) (xs : List Choice) → with_one ≡ given ++ b ∷ [] → bool_choices given ++ (bool_choice b ∷ xs) ≡ bool_choices with_one ++ xs
+behind_is given with_one b xs e = sym (append_assoc (bool_choices given) (bool_choice b ∷ []) xs) ∙ ap (λ ys. ys ++ xs) (sym (one_more given with_one b e))
+
+-- where neither bool leads to a failure, nothing does
+pub both_none : (prog : Program) (entry bound : ℕ) (given with_false with_true : List Bool) → RunsOf prog entry bound given Going → with_false ≡ given ++ false ∷ [] → NoneFrom prog entry bound (bool_choices with_false) → with_true ≡ given ++ true ∷ []
+    → NoneFrom prog entry bound (bool_choices with_true) → NoneFrom prog entry bound (bool_choices given)
+both_none prog entry bound given with_false with_true h e no_false f no_true [] (p, n, fails) =
+    let is = stands_status prog bound 0 (begin prog entry) (bool_choices given) Going h in
+    let there = subst (λ xs. HasStatus prog entry bound xs (Failed p n)) (append-nil (bool_choices given)) fails in
+    let same : Going ≡ Failed p n = one_status prog bound 0 (begin prog entry) (bool_choices given) Going (Failed p n) is there in cc
+both_none prog entry bound given with_false with_true h e no_false f no_true (Go place ∷ xs) fails = no_other prog entry bound given (Go place) xs h tt fails
+both_none prog entry bound given with_false with_true h e no_false f no_true (Val (AtomValue (BoolAtom false)) ∷ xs) fails = no_false xs (subst (Fails prog entry bound) (behind_is given with_false false xs e) fails)
+both_none prog entry bound given with_false with_true h e no_false f no_true (Val (AtomValue (BoolAtom true)) ∷ xs) fails = no_true xs (subst (Fails prog entry bound) (behind_is given with_true true xs f) fails)
+both_none prog entry bound given with_false with_true h e no_false f no_true (Val (AtomValue (BvAtom v)) ∷ xs) fails = no_other prog entry bound given (Val (AtomValue (BvAtom v))) xs h tt fails
+both_none prog entry bound given with_false with_true h e no_false f no_true (Val (MapValue m) ∷ xs) fails = no_other prog entry bound given (Val (MapValue m)) xs h tt fails
+
+-- what is first behind false is first
+pub false_first : (prog : Program) (entry bound : ℕ) (given with_false : List Bool) (f : Failing) → with_false ≡ given ++ false ∷ [] → FirstFrom prog entry bound (bool_choices with_false) f → FirstFrom prog entry bound (bool_choices given) f
+false_first prog entry bound given with_false f e h =
+    record { rest = bool_choice false ∷ h.rest; begins = h.begins ∙ sym (behind_is given with_false false h.rest e); fails = h.fails; first = before }
+  where
+    before : (earlier : List Choice) → Precedes earlier (bool_choice false ∷ h.rest) → Fails prog entry bound (bool_choices given ++ earlier) → ⊥
     before [] p fails = p
     before (x ∷ xs) (inl p) fails = let q = p.1 in cc
-    before (x ∷ xs) (inr p) fails =
-        let same : given ++ (x ∷ xs) ≡ with_false ++ xs = ap (λ y. given ++ (y ∷ xs)) p.0 ∙ (sym (append_assoc given (Val (bool_value false) ∷ []) xs) ∙ ap (λ ys. ys ++ xs) (sym e)) in
-        h.first xs p.1 (subst (Fails prog entry bound) same fails)
+    before (x ∷ xs) (inr p) fails = h.first xs p.1 (subst (Fails prog entry bound) (ap (λ y. bool_choices given ++ (y ∷ xs)) p.0 ∙ behind_is given with_false false xs e) fails)
 
 -- what is first behind true is first where nothing behind false fails
-pub true_first : (prog : Program) (entry bound : ℕ) (given with_false with_true : List Choice) (f : Failing) → with_false ≡ given ++ Val (bool_value false) ∷ [] → NoneFrom prog entry bound with_false → with_true ≡ given ++ Val (bool_value true) ∷ [] → FirstFrom prog entry bound with_true f → FirstFrom prog entry bound given f
-true_first prog entry bound given with_false with_true f e none e2 h =
-    record {
-      rest = Val (bool_value true) ∷ h.rest;
-      begins = h.begins ∙ (ap (λ ys. ys ++ h.rest) e2 ∙ append_assoc given (Val (bool_value true) ∷ []) h.rest);
-      fails = h.fails;
-      first = before;
-    }
+pub true_first : (prog : Program) (entry bound : ℕ) (given with_false with_true : List Bool) (f : Failing) → with_false ≡ given ++ false ∷ [] → NoneFrom prog entry bound (bool_choices with_false) → with_true ≡ given ++ true ∷ []
+    → FirstFrom prog entry bound (bool_choices with_true) f → FirstFrom prog entry bound (bool_choices given) f
+true_first prog entry bound given with_false with_true f e none g h =
+    record { rest = bool_choice true ∷ h.rest; begins = h.begins ∙ sym (behind_is given with_true true h.rest g); fails = h.fails; first = before }
   where
-    before : (earlier : List Choice) → Precedes earlier (Val (bool_value true) ∷ h.rest) → Fails prog entry bound (given ++ earlier) → ⊥
+    before : (earlier : List Choice) → Precedes earlier (bool_choice true ∷ h.rest) → Fails prog entry bound (bool_choices given ++ earlier) → ⊥
     before [] p fails = p
-    before (x ∷ xs) (inl p) fails =
-        let same : given ++ (x ∷ xs) ≡ with_false ++ xs = ap (λ y. given ++ (y ∷ xs)) p.0 ∙ (sym (append_assoc given (Val (bool_value false) ∷ []) xs) ∙ ap (λ ys. ys ++ xs) (sym e)) in
-        none xs (subst (Fails prog entry bound) same fails)
-    before (x ∷ xs) (inr p) fails =
-        let same : given ++ (x ∷ xs) ≡ with_true ++ xs = ap (λ y. given ++ (y ∷ xs)) p.0 ∙ (sym (append_assoc given (Val (bool_value true) ∷ []) xs) ∙ ap (λ ys. ys ++ xs) (sym e2)) in
-        h.first xs p.1 (subst (Fails prog entry bound) same fails)
+    before (x ∷ xs) (inl p) fails = none xs (subst (Fails prog entry bound) (ap (λ y. bool_choices given ++ (y ∷ xs)) p.0 ∙ behind_is given with_false false xs e) fails)
+    before (x ∷ xs) (inr p) fails = h.first xs p.1 (subst (Fails prog entry bound) (ap (λ y. bool_choices given ++ (y ∷ xs)) p.0 ∙ behind_is given with_true true xs g) fails)
 
 -- the first of those that begin with nothing is the first of all
-pub first_of_all : (prog : Program) (entry bound : ℕ) (f : Failing) (given : List Choice) → given ≡ [] → FirstFrom prog entry bound given f → FirstFailing prog entry bound f
+pub first_of_all : (prog : Program) (entry bound : ℕ) (f : Failing) (given : List Bool) → given ≡ [] → FirstFrom prog entry bound (bool_choices given) f → FirstFailing prog entry bound f
 first_of_all prog entry bound f given e h =
-    let same : f.choices ≡ h.rest = h.begins ∙ ap (λ ys. ys ++ h.rest) e in
-    record { fails = h.fails; first = λ earlier before fails. h.first earlier (subst (Precedes earlier) same before) (subst (Fails prog entry bound) (ap (λ ys. ys ++ earlier) (sym e)) fails) }
+    let none : bool_choices given ≡ [] = ap bool_choices e in
+    let same : f.choices ≡ h.rest = h.begins ∙ ap (λ ys. ys ++ h.rest) none in
+    record { fails = h.fails; first = λ earlier before fails. h.first earlier (subst (Precedes earlier) same before) (subst (Fails prog entry bound) (ap (λ ys. ys ++ earlier) (sym none)) fails) }
+
+pub none_of_all : (prog : Program) (entry bound : ℕ) (given : List Bool) → given ≡ [] → NoneFrom prog entry bound (bool_choices given) → NoneFails prog entry bound
+none_of_all prog entry bound given e h choices fails = h choices (subst (Fails prog entry bound) (ap (λ ys. ys ++ choices) (sym (ap bool_choices e))) fails)

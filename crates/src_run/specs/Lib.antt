@@ -1,5 +1,4 @@
-pub mod Eval
 pub mod Machine
-pub mod Program
+pub mod Plain
+pub mod Running
 pub mod Search
-pub mod Shape

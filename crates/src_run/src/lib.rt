@@ -1,11 +1,14 @@
-//! Programs over bool, and the machine that runs one on a list of choices.
-//! `machine` says how a run goes and gives its status; `search` tries every list of choices.
+//! The machine: what a run of the source program does on a list of choices, and the search over all lists for the plain
+//! programs that ask for few bools.
 #![tactic(auto)]
 
-pub mod exprs;
-pub mod machine;
-pub mod prog;
-pub mod search;
+mod machine;
+mod plain;
+mod running;
+mod searching;
 #[cfg(test)]
 mod tests;
-pub mod values;
+
+pub use machine::{Choice, Status};
+pub use plain::is_plain;
+pub use searching::{Failing, search};

@@ -1,94 +1,104 @@
-//! The calls on small programs, with the statuses that the rules of the language give.
-ghost use Rattle.std.specs.Prelude.{IsTrue};
-ghost use Rattle.std.specs.List.{list_all};
-ghost use Rattle.src_run.specs.Shape.{cmd_is_declared};
+//! The search on a small program.
+ghost use Rattle.std.specs.Prelude.{◌≡◌, [], ◌∷◌, IfOk};
+ghost use Rattle.hy_val.specs.declared.expr.ExprNode.TheVariants.{Var as Read};
+ghost use Rattle.hy_val.specs.declared.expr.Var.TheVariants.{Global as AGlobal};
+ghost use Rattle.hy_val.specs.declared.sort.ScalarKind.TheVariants.{Bool as BoolSort};
+ghost use Rattle.hy_val.specs.declared.sort.SortKind.TheVariants.{Scalar as ScalarSort};
+ghost use Rattle.src_prog.specs.declared.block.Cmd.TheVariants.{Assert, Havoc};
+ghost use Rattle.src_prog.specs.declared.block.Next.TheVariants.{Return};
 
-use crate::exprs::{Env, Expr, UnOp, Var, eval};
-use crate::machine::{Choice, Status, replay};
-use crate::prog::{Cmd, Named, Next, Prog, SrcBlock, SrcProc};
-use crate::search::search;
-use crate::values::{Atom, Scalar, Sort, Value};
-use hy_text::Text;
+use crate::{Choice, Failing, is_plain, search};
+use hy_val::{Atom, Expr, ExprNode, Scalar, Sort, Value, Var};
 use sqlite_items::Items;
+use src_prog::{Cmd, Named, Next, Prog, SrcBlock, SrcProc};
 use std::alloc::{AllocError, Global};
 use std::process::Abort;
 use std::test::*;
 
-const BOOL: Sort = Sort::Scalar(Scalar::Bool);
-
-const TRUE: Choice = Choice::Val(Value::Atom(Atom::Bool(true)));
-
-// var b: bool; procedure main() { the commands }
-fn main_of(alloc: Global, cmds: Items<Cmd>) -> Result<Prog, AllocError>
-    requires { IsTrue (list_all (cmd_is_declared 1) cmds) }
+// A block that gives the first global any value, asserts it, and returns.
+fn asserting(alloc: Global) -> Result<SrcBlock, AllocError>
+    ensures { IfOk result (λ b. b ≡ record { cmds = Havoc (AGlobal 0 ∷ []) ∷ Assert 1 (Read (AGlobal 0) (ScalarSort BoolSort) ∷ []) ∷ []; next = Return }) }
 {
-    let name = Items::from_slice(alloc, b"b")?;
-    let mut globals = Items::new(alloc);
-    globals.push(Named { name, sort: BOOL })?;
-    let block = SrcBlock {
+    let node = ExprNode::Var {
+        var: Var::Global(0),
+        sort: Sort::scalar(Scalar::bool()),
+    };
+    let expr = Expr::new(Items::from_slice(alloc, &[node])?);
+    let mut cmds = Items::new(alloc);
+    cmds.push(Cmd::Havoc(Items::from_slice(alloc, &[Var::Global(0)])?))?;
+    cmds.push(Cmd::Assert { number: 1, expr })?;
+    Ok(SrcBlock {
         cmds,
         next: Next::Return,
-    };
+    })
+}
+
+// `procedure main() { havoc b; assert b; }`
+fn main_of(alloc: Global) -> Result<SrcProc, AllocError>
+    ensures ins { IfOk result (λ p. p.ins ≡ []) }
+    ensures outs { IfOk result (λ p. p.outs ≡ []) }
+    ensures locals { IfOk result (λ p. p.locals ≡ []) }
+    ensures loops { IfOk result (λ p. p.loops ≡ []) }
+    ensures blocks { IfOk result (λ p. p.blocks ≡ record { cmds = Havoc (AGlobal 0 ∷ []) ∷ Assert 1 (Read (AGlobal 0) (ScalarSort BoolSort) ∷ []) ∷ []; next = Return } ∷ []) }
+{
     let mut blocks = Items::new(alloc);
-    blocks.push(block)?;
-    let name = Items::from_slice(alloc, b"main")?;
+    blocks.push(asserting(alloc)?)?;
+    Ok(SrcProc {
+        name: Items::from_slice(alloc, b"main")?,
+        ins: Items::new(alloc),
+        outs: Items::new(alloc),
+        locals: Items::new(alloc),
+        blocks,
+        loops: Items::new(alloc),
+    })
+}
+
+// `var b: bool;` and the procedure.
+fn prog_of(alloc: Global) -> Result<Prog, AllocError> {
+    let mut globals = Items::new(alloc);
+    globals.push(Named {
+        name: Items::from_slice(alloc, b"b")?,
+        sort: Sort::scalar(Scalar::bool()),
+    })?;
     let mut procs = Items::new(alloc);
-    procs.push(SrcProc { name, blocks })?;
-    Ok(Prog { globals, procs })
+    procs.push(main_of(alloc)?)?;
+    let prog = Prog::new(
+        Items::new(alloc),
+        Items::new(alloc),
+        Items::new(alloc),
+        globals,
+        procs,
+    );
+    Ok(prog)
 }
 
-// assume b; assert !b;
-fn assume_and_refute(alloc: Global) -> Result<Prog, AllocError> {
-    let mut cmds = Items::new(alloc);
-    cmds.push(Cmd::Assume(Expr::variable(alloc, Var::Global(0), BOOL)?))?;
-    let mut expr = Expr::variable(alloc, Var::Global(0), BOOL)?;
-    expr.apply(UnOp::Not)?;
-    cmds.push(Cmd::Assert { number: 1, expr })?;
-    main_of(alloc, cmds)
+fn is_bool_choice(choice: &Choice, value: bool) -> bool {
+    match choice {
+        Choice::Val(Value::Atom(atom)) => *atom == Atom::bool(value),
+        Choice::Val(Value::Map(_)) => false,
+        Choice::Go(_) => false,
+    }
 }
 
-#[test]
-fn expressions_are_evaluated(rt: HostRuntime) -> Result<(), Fail> {
-    let mut expr = Expr::variable(rt.alloc(), Var::Global(0), BOOL)?;
-    expr.apply(UnOp::Not)?;
-    assert_eq!(rt; expr.nodes().len(), 2);
-    let globals = Items::from_slice(rt.alloc(), &[Value::from_bool(false)])?;
-    let env = Env { globals };
-    assert_eq!(rt; eval(rt.alloc(), &expr, &env)?, Value::from_bool(true));
-    assert_eq!(rt; env.read(Var::Global(0)), Some(BOOL.zero()));
-    let literal = Expr::literal(rt.alloc(), Atom::Bool(true))?;
-    let value = eval(rt.alloc(), &literal, &env)?;
-    assert!(rt; value.is_true());
-    assert!(rt; value.has_sort(BOOL));
-    Ok(())
-}
-
-#[test]
-fn procedures_are_found(rt: HostRuntime) -> Result<(), Fail> {
-    let prog = assume_and_refute(rt.alloc())?;
-    let main = Text::from_str(rt.alloc(), "main")?;
-    let other = Text::from_str(rt.alloc(), "mai")?;
-    assert!(rt; prog.find(&main) == Some(0));
-    assert!(rt; prog.find(&other).is_none());
-    assert!(rt; prog.globals().len() == prog.procs().len());
-    Ok(())
-}
-
-// The run of main fails on true.
-fn fails_on_true(rt: &impl Abort, alloc: Global) -> Result<(), AllocError> {
-    let prog = assume_and_refute(alloc)?;
-    let main = Text::from_str(alloc, "main")?;
-    let entry = prog.find(&main).expect(rt, "main is there");
-    let status = replay(alloc, &prog, entry, 1, &[TRUE])?;
-    assert!(rt; status == Status::Failed { proc: 0, assert: 1 });
-    let found = search(alloc, &prog, entry, 1)?.expect(rt, "a run fails");
-    assert!(rt; found.choices.as_slice() == [TRUE].as_slice());
-    assert!(rt; found.proc == 0 && found.assert == 1);
-    Ok(())
+// Both choices are false, and the first assert of the first procedure fails.
+fn is_first(found: &Failing) -> bool {
+    match found.choices.as_slice() {
+        [one, other] => {
+            is_bool_choice(one, false)
+                && is_bool_choice(other, false)
+                && found.proc == 0
+                && found.assert == 1
+        }
+        _ => false,
+    }
 }
 
 #[test]
-fn a_failing_run_is_found(rt: HostRuntime) -> Result<(), Fail> {
-    fails_on_true(&rt, rt.alloc())?;
+fn the_first_failing_run_is_found(rt: HostRuntime) -> Result<(), Fail> {
+    let prog = prog_of(rt.alloc())?;
+    assert!(rt; prog.procs().len() == 1);
+    assert!(rt; is_plain(&prog, 0));
+    let found = search(rt.alloc(), &prog, 0)?.expect(&rt, "a run fails");
+    assert!(rt; is_first(&found));
     Ok(())
 }

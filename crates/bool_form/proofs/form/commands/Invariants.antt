@@ -1,6 +1,6 @@
 use Rattle.std.proofs.Common.{◌≡◌, ◌+◌, ◌≤◌, [], true, drop, length}
 use Rattle.std.specs.List.{list_all}
-use Rattle.src_run.specs.Shape.{cmd_is_declared}
+use Rattle.bool_run.specs.Shape.{cmd_is_declared}
 use Rattle.bool_form.specs.Form.{cmds_of}
 use Rattle.bool_form.proofs.form.commands.Given as goal
 

@@ -1,7 +1,7 @@
 use Rattle.std.proofs.Common.{◌≡◌, drop}
 use Rattle.std.specs.List.{position_from}
 use Rattle.std.specs.Str.{bytes_eq}
-use Rattle.src_run.specs.declared.prog.Named.{Named}
+use Rattle.bool_run.specs.declared.prog.Named.{Named}
 use Rattle.bool_form.proofs.form.place_of.Given as goal
 
 abbrev pub invariant-loop-index : goal.invariant-loop-index
