@@ -1,10 +1,9 @@
 -- Nodes that are added leave the values of the others, and each value is that of its node.
-use Rattle.std.proofs.Common.{◌≡◌, ℕ, zero, suc, ◌+◌, ◌<◌, Bool, true, false, ◌&&◌, List, [], ◌∷◌, ◌++◌, length, arith, sym, ◌∙◌, ap, refl, subst, length-append}
-use Rattle.std.specs.Prelude.{Option, None, Some, if◌then◌else◌, slice_get, IsTrue, IsSome, is_some}
+use Rattle.std.proofs.Common.{◌≡◌, ℕ, zero, suc, ◌+◌, ◌<◌, List, [], ◌∷◌, ◌++◌, length, arith, sym, ◌∙◌, ap, refl, length-append}
+use Rattle.std.specs.Prelude.{Option, None, Some, slice_get, IsSome}
 use Rattle.std.specs.Option.{option_and_then}
-use Rattle.hy_val.specs.Values.{at, is_on, unary_value, binary_value, pick, select_value, store_value}
+use Rattle.hy_val.specs.Values.{at, unary_value, binary_value, pick, select_value, store_value}
 use Rattle.hy_val.specs.NodeSorts.{as_scalar, unary_sort, binary_sort, if_sort, select_sort, store_sort}
-use Rattle.hy_val.specs.declared.sort.Scalar.{Scalar}
 use Rattle.hy_val.specs.declared.sort.ScalarKind.TheVariants.{Bool as BoolSort, Bv as BvSort}
 use Rattle.hy_val.specs.declared.sort.Sort.{Sort}
 use Rattle.hy_val.specs.declared.sort.SortKind.TheVariants.{Scalar as ScalarSort, Map as MapSort}

@@ -1,30 +1,27 @@
 -- The variables that stand in terms alone matter.
-use Rattle.std.proofs.Common.{◌≡◌, ℕ, zero, suc, ◌+◌, ◌-◌, ◌<◌, Bool, true, false, ◌&&◌, ◌||◌, List, [], ◌∷◌, ◌++◌, length, map, arith, sym, ◌∙◌, ap, refl, subst, length-append, append_assoc}
-use Rattle.std.specs.Prelude.{Option, None, Some, if◌then◌else◌, slice_get, IsTrue, nat_eq, nat_lt}
+use Rattle.std.proofs.Common.{◌≡◌, ℕ, ◌+◌, ◌-◌, ◌<◌, Bool, true, false, ◌&&◌, ◌||◌, List, [], ◌∷◌, ◌++◌, length, map, arith, sym, ◌∙◌, ap, refl, length-append, append_assoc}
+use Rattle.std.specs.Prelude.{Option, None, Some, if◌then◌else◌, IsTrue, nat_eq, nat_lt}
 use Rattle.std.proofs.lemmas.Bool.Decides.{nat_tests}
 use Rattle.hy_val.specs.Values.{at, has_sort}
 use Rattle.hy_val.specs.declared.sort.Sort.{Sort}
 use Rattle.hy_val.specs.declared.value.Value.{Value}
 use Rattle.hy_term.specs.TermSorts.{named, or_else, sort_of_number}
-use Rattle.hy_term.specs.Meaning.{node_value, values_onto, values, value, node_fits, fits, extended}
-use Rattle.hy_term.specs.Variables.{insert, with_variable, variables_onto, variables, numbers, of_list, is_in, Agree, node_below, below, reads}
+use Rattle.hy_term.specs.Meaning.{node_value, values_onto, values, node_fits, fits, extended}
+use Rattle.hy_term.specs.Variables.{insert, with_variable, variables_onto, numbers_of, numbers, of_list, is_in, Agree, node_below, below, reads}
 use Rattle.hy_term.specs.declared.node.TermNode.{TermNode}
 use Rattle.hy_term.specs.declared.node.TermNode.TheVariants.{Lit, ZeroMap, Variable, Unary, Binary, If, Select, Store}
 use Rattle.hy_term.specs.declared.node.TermVariable.{TermVariable}
 use Rattle.hy_term.proofs.Sorting.{and_left, and_right}
 
-same_number : (n : ℕ) → nat_eq n n ≡ true
+pub same_number : (n : ℕ) → nat_eq n n ≡ true
 same_number n = grind (arith, nat_tests)
 
-number_is : (n m : ℕ) → nat_eq n m ≡ true → n ≡ m
+pub number_is : (n m : ℕ) → nat_eq n m ≡ true → n ≡ m
 number_is n m h = grind (arith, nat_tests, h)
 
 or_right : (a b : Bool) → b ≡ true → (a || b) ≡ true
 or_right true b h = refl
 or_right false b h = h
-
-abbrev pub numbers_of : List TermVariable → List ℕ
-numbers_of vs = map (λ (v : TermVariable). v.number) vs
 
 -- ---- what is inserted is there, and what was there stays
 

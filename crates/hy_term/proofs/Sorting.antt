@@ -1,13 +1,10 @@
 -- The sorts of terms that grow.
-use Rattle.std.proofs.Common.{◌≡◌, ℕ, zero, suc, ◌+◌, ◌<◌, Bool, true, false, ◌&&◌, List, [], ◌∷◌, ◌++◌, length, get_or, arith, sym, ◌∙◌, ap, refl, subst, length-append, append_assoc}
-use Rattle.std.specs.Prelude.{Option, None, Some, if◌then◌else◌, slice_get, IsTrue, IsSome, is_some, nat_eq, nat_lt}
+use Rattle.std.proofs.Common.{◌≡◌, ℕ, zero, suc, ◌+◌, ◌<◌, Bool, true, false, ◌&&◌, List, [], ◌∷◌, ◌++◌, length, arith, sym, ◌∙◌, ap, refl, subst, length-append, append_assoc}
+use Rattle.std.specs.Prelude.{Option, None, Some, slice_get, IsTrue, IsSome, is_some}
 use Rattle.std.specs.Option.{option_and_then}
-use Rattle.std.proofs.lemmas.Bool.Decides.{nat_tests}
 use Rattle.hy_val.specs.declared.sort.Sort.{Sort}
-use Rattle.hy_val.specs.declared.sort.ScalarKind.TheVariants.{Bool as BoolSort, Bv as BvSort}
-use Rattle.hy_val.specs.declared.sort.SortKind.TheVariants.{Scalar as ScalarSort, Map as MapSort}
 use Rattle.hy_term.specs.Formula.{Formula}
-use Rattle.hy_term.specs.TermSorts.{sort_of_node, sorts_onto, sorts, sort_at, sort_behind, named, or_else, sort_of_number, free_or_same, variable_agrees, fits_behind, agree_onto, is_bool, is_formula, Sorted}
+use Rattle.hy_term.specs.TermSorts.{sort_of_node, sorts_onto, sorts, sort_at, sort_behind, variable_agrees, fits_behind, agree_onto, is_bool, Sorted}
 use Rattle.hy_term.specs.declared.node.TermNode.{TermNode}
 
 pub and_left : (a b : Bool) → IsTrue (a && b) → IsTrue a

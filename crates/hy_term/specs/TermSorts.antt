@@ -1,9 +1,8 @@
 -- The sorts of terms, and which nodes may stand behind others.
-use Rattle.std.specs.Prelude.{◌≡◌, ℕ, nat_eq, nat_lt, Bool, true, false, ◌&&◌, List, [], ◌∷◌, ◌++◌, slice_get, Option, None, Some, is_some, if◌then◌else◌, IsTrue}
+use Rattle.std.specs.Prelude.{◌≡◌, ℕ, nat_eq, Bool, true, false, ◌&&◌, List, [], ◌∷◌, ◌++◌, slice_get, Option, None, Some, is_some, if◌then◌else◌, IsTrue}
 use Rattle.std.specs.Option.{option_and_then}
 use Rattle.hy_val.specs.Sorts.{scalar_of, has_scalar}
 use Rattle.hy_val.specs.NodeSorts.{is_sort, same_sort, as_scalar, unary_sort, binary_sort, if_sort, select_sort, store_sort}
-use Rattle.hy_val.specs.declared.sort.Scalar.{Scalar}
 use Rattle.hy_val.specs.declared.sort.ScalarKind.TheVariants.{Bool as BoolSort, Bv as BvSort}
 use Rattle.hy_val.specs.declared.sort.Sort.{Sort}
 use Rattle.hy_val.specs.declared.sort.SortKind.TheVariants.{Scalar as ScalarSort, Map as MapSort}

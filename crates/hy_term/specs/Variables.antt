@@ -1,9 +1,11 @@
 -- The variables that stand in terms, and lists of values for them.
-use Rattle.std.specs.Prelude.{◌≡◌, ℕ, zero, suc, ◌+◌, nat_eq, nat_lt, Bool, true, false, ◌&&◌, ◌||◌, List, [], ◌∷◌, ◌++◌, map, if◌then◌else◌}
+use Rattle.std.specs.Prelude.{◌≡◌, ℕ, zero, suc, ◌+◌, nat_eq, nat_lt, Bool, true, false, ◌&&◌, ◌||◌, List, [], ◌∷◌, map, if◌then◌else◌, Option, None, Some}
 use Rattle.hy_val.specs.declared.atom.AtomKind.TheVariants.{Bool as BoolAtom}
-use Rattle.hy_val.specs.declared.sort.Sort.{Sort}
 use Rattle.hy_val.specs.declared.value.Value.{Value}
 use Rattle.hy_val.specs.declared.value.Value.TheVariants.{Atom as AtomValue}
+use Rattle.hy_val.specs.Values.{has_sort}
+use Rattle.hy_val.specs.NodeSorts.{is_sort}
+use Rattle.hy_term.specs.TermSorts.{is_scalar_sort}
 use Rattle.hy_term.specs.declared.node.TermNode.{TermNode}
 use Rattle.hy_term.specs.declared.node.TermNode.TheVariants.{Lit, ZeroMap, Variable, Unary, Binary, If, Select, Store}
 use Rattle.hy_term.specs.declared.node.TermVariable.{TermVariable}
@@ -31,8 +33,42 @@ variables_onto vs (node ∷ nodes) = variables_onto (with_variable vs node) node
 abbrev pub variables : List TermNode → List TermVariable
 variables nodes = variables_onto [] nodes
 
+abbrev pub numbers_of : List TermVariable → List ℕ
+numbers_of vs = map (λ (v : TermVariable). v.number) vs
+
 abbrev pub numbers : List TermNode → List ℕ
-numbers nodes = map (λ (v : TermVariable). v.number) (variables nodes)
+numbers nodes = numbers_of (variables nodes)
+
+-- each number is below the next
+abbrev pub first_above : ℕ → List ℕ → Bool
+first_above n [] = true
+first_above n (m ∷ ms) = nat_lt n m
+
+abbrev pub ascend : List ℕ → Bool
+ascend [] = true
+ascend (m ∷ ms) = first_above m ms && ascend ms
+
+-- one value for each variable, which has its sort
+abbrev pub have_sorts : List TermVariable → List Value → Bool
+have_sorts [] [] = true
+have_sorts [] (w ∷ ws) = false
+have_sorts (v ∷ vs) [] = false
+have_sorts (v ∷ vs) (w ∷ ws) = has_sort w v.sort && have_sorts vs ws
+
+-- each has a scalar sort, whose width is 1 to 64
+abbrev pub are_scalars : List TermVariable → Bool
+are_scalars [] = true
+are_scalars (v ∷ vs) = (is_scalar_sort v.sort && is_sort v.sort) && are_scalars vs
+
+-- how many variables at the front have a number below this
+abbrev pub count_below : ℕ → List TermVariable → ℕ
+count_below n [] = zero
+count_below n (v ∷ vs) = if nat_lt v.number n then suc (count_below n vs) else zero
+
+-- the variable has this number
+abbrev pub has_number : ℕ → Option TermVariable → Bool
+has_number n None = false
+has_number n (Some v) = nat_eq v.number n
 
 -- the assignment that a list of values for these numbers stands for; false elsewhere
 abbrev pub of_list : List ℕ → List Value → ℕ → Value

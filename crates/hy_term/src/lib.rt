@@ -9,12 +9,15 @@ mod sorts;
 mod terms;
 #[cfg(test)]
 mod tests;
+mod variables;
 
 pub use laws::{
-    above_is_free, each_node_has_its_value, lists_suffice, new_value, new_variables, values_stay,
-    variables_alone_matter,
+    above_is_free, each_node_has_its_sort, each_node_has_its_value, each_value_has_its_sort,
+    lists_are_assignments, lists_suffice, new_value, new_variables, plain_variables_are_scalars,
+    values_stay, variables_alone_matter, variables_are_listed, variables_decide_fits,
 };
 pub use node::{TermNode, TermVariable};
 pub use reduced::Reduced;
 pub use sorts::sort_of_node;
 pub use terms::Terms;
+pub use variables::{place_of, variables_of};

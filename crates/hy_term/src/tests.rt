@@ -40,5 +40,7 @@ fn nodes_of_each_kind_are_added(rt: HostRuntime) -> Result<(), Fail> {
     assert!(rt; terms.root() == 7);
     assert!(rt; terms.sort_of(stored) == Sort::map(byte, byte));
     assert!(rt; terms.fresh() == Some(8));
+    let variables = variables_of(rt.alloc(), terms.nodes())?;
+    assert!(rt; variables.len() == 1);
     Ok(())
 }

@@ -1,4 +1,4 @@
-use Rattle.std.proofs.Common.{◌≡◌, ℕ, ◌≤◌, drop, List}
+use Rattle.std.proofs.Common.{ℕ, ◌≤◌, drop}
 use Rattle.std.specs.Prelude.{IsTrue}
 use Rattle.hy_term.specs.Variables.{below}
 use Rattle.hy_term.proofs.terms.Terms.fresh.Given as goal
