@@ -9,3 +9,10 @@ pub mod Shifting
 pub mod Dividing
 pub mod Signing
 pub mod FirstWires
+pub mod LowBits
+pub mod Operating
+pub mod Placing
+pub mod Carrying
+pub mod Nodes
+pub mod Building
+pub mod FromBits
