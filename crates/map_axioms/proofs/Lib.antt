@@ -1,0 +1,16 @@
+pub mod Cases
+pub mod Homes
+pub mod Standing
+pub mod Storing
+pub mod Nodes
+pub mod Rows
+pub mod Conjoining
+pub mod Looking
+pub mod Arms
+pub mod Cones
+pub mod Pairs
+pub mod Theorem
+pub mod Counting
+pub mod Whole
+pub mod Evaluating
+pub mod WayBack

@@ -1,0 +1,47 @@
+use Rattle.std.proofs.Common.{◌≡◌, ◌≢◌, true, false, arith}
+use Rattle.std.specs.Prelude.{nat_eq}
+use Rattle.std.proofs.lemmas.Bool.Decides.{nat_tests}
+use Rattle.map_axioms.specs.Steps.{pair_on}
+use Rattle.map_axioms.proofs.Conjoining.{conjoined_same, pair_other, first_step, second_fits, second_step, third_fits, third_step, fourth_fits, fourth}
+use Rattle.map_axioms.proofs.Counting.{four_more}
+use Rattle.map_axioms.proofs.congruence.with_pair.Goals as goal
+
+pub returns-then-one-other-clause-all : goal.returns-then-one-other-clause-all
+returns-then-one-other-clause-all c =
+    let other : c.args.one.map ≢ c.args.other.map = c.if-one-other.true in
+    let test : nat_eq c.args.one.map c.args.other.map ≡ false = grind (arith, nat_tests, other) in
+    conjoined_same c.args.base c.args.nodes.now c.args.out.now.nodes c.args.entries.now c.args.all (λ vs. pair_on vs c.args.one c.args.other) c.requires.state c.requires.all
+    (λ vs. pair_other c.args.one c.args.other vs test)
+
+pub add-requires-2 : goal.add-requires-2
+add-requires-2 c =
+    let s1 = first_step c.args.base c.args.nodes.now c.args.out.now.nodes c.args.entries.now c.args.all c.args.one c.args.other c.requires.state c.requires.all c.requires.one c.requires.other c.if-one-other.false c.add.new.self.nodes c.in_ok-same.same c.in_ok-same.ensures.added c.in_ok-same.ensures.number in
+    second_fits c.args.base c.args.nodes.now c.args.out.now.nodes c.args.entries.now c.args.all c.args.one c.args.other c.requires.state c.requires.all c.requires.one c.requires.other c.if-one-other.false c.add.new.self.nodes c.in_ok-same.same s1
+
+pub add-requires-3 : goal.add-requires-3
+add-requires-3 c =
+    let s1 = first_step c.args.base c.args.nodes.now c.args.out.now.nodes c.args.entries.now c.args.all c.args.one c.args.other c.requires.state c.requires.all c.requires.one c.requires.other c.if-one-other.false c.add.new.self.nodes c.in_ok-same.same c.in_ok-same.ensures.added c.in_ok-same.ensures.number in
+    let s2 = second_step c.args.base c.args.nodes.now c.args.out.now.nodes c.args.entries.now c.args.all c.args.one c.args.other c.requires.state c.requires.all c.requires.one c.requires.other c.if-one-other.false c.add.new.self.nodes c.in_ok-same.same s1 c.add-2.new.self.nodes c.in_ok-alike.alike c.in_ok-alike.ensures.added c.in_ok-alike.ensures.number in
+    third_fits c.args.base c.args.nodes.now c.args.out.now.nodes c.args.entries.now c.args.all c.args.one c.args.other c.requires.state c.requires.all c.requires.one c.requires.other c.if-one-other.false c.add.new.self.nodes c.in_ok-same.same s1 c.add-2.new.self.nodes c.in_ok-alike.alike s2
+
+pub add-requires-4 : goal.add-requires-4
+add-requires-4 c =
+    let s1 = first_step c.args.base c.args.nodes.now c.args.out.now.nodes c.args.entries.now c.args.all c.args.one c.args.other c.requires.state c.requires.all c.requires.one c.requires.other c.if-one-other.false c.add.new.self.nodes c.in_ok-same.same c.in_ok-same.ensures.added c.in_ok-same.ensures.number in
+    let s2 = second_step c.args.base c.args.nodes.now c.args.out.now.nodes c.args.entries.now c.args.all c.args.one c.args.other c.requires.state c.requires.all c.requires.one c.requires.other c.if-one-other.false c.add.new.self.nodes c.in_ok-same.same s1 c.add-2.new.self.nodes c.in_ok-alike.alike c.in_ok-alike.ensures.added c.in_ok-alike.ensures.number in
+    let s3 = third_step c.args.base c.args.nodes.now c.args.out.now.nodes c.args.entries.now c.args.all c.args.one c.args.other c.requires.state c.requires.all c.requires.one c.requires.other c.if-one-other.false c.add.new.self.nodes c.in_ok-same.same s1 c.add-2.new.self.nodes c.in_ok-alike.alike s2 c.add-3.new.self.nodes c.in_ok-implied.implied c.in_ok-implied.ensures.added c.in_ok-implied.ensures.number in
+    fourth_fits c.args.base c.args.nodes.now c.args.out.now.nodes c.args.entries.now c.args.all c.args.one c.args.other c.requires.state c.requires.all c.requires.one c.requires.other c.if-one-other.false c.add.new.self.nodes c.in_ok-same.same s1 c.add-2.new.self.nodes c.in_ok-alike.alike s2 c.add-3.new.self.nodes c.in_ok-implied.implied s3
+
+pub returns-clause-all : goal.returns-clause-all
+returns-clause-all c =
+    let s1 = first_step c.args.base c.args.nodes.now c.args.out.now.nodes c.args.entries.now c.args.all c.args.one c.args.other c.requires.state c.requires.all c.requires.one c.requires.other c.if-one-other.false c.add.new.self.nodes c.in_ok-same.same c.in_ok-same.ensures.added c.in_ok-same.ensures.number in
+    let s2 = second_step c.args.base c.args.nodes.now c.args.out.now.nodes c.args.entries.now c.args.all c.args.one c.args.other c.requires.state c.requires.all c.requires.one c.requires.other c.if-one-other.false c.add.new.self.nodes c.in_ok-same.same s1 c.add-2.new.self.nodes c.in_ok-alike.alike c.in_ok-alike.ensures.added c.in_ok-alike.ensures.number in
+    let s3 = third_step c.args.base c.args.nodes.now c.args.out.now.nodes c.args.entries.now c.args.all c.args.one c.args.other c.requires.state c.requires.all c.requires.one c.requires.other c.if-one-other.false c.add.new.self.nodes c.in_ok-same.same s1 c.add-2.new.self.nodes c.in_ok-alike.alike s2 c.add-3.new.self.nodes c.in_ok-implied.implied c.in_ok-implied.ensures.added c.in_ok-implied.ensures.number in
+    fourth c.args.base c.args.nodes.now c.args.out.now.nodes c.args.entries.now c.args.all c.args.one c.args.other c.requires.state c.requires.all c.requires.one c.requires.other c.if-one-other.false c.add.new.self.nodes c.in_ok-same.same s1 c.add-2.new.self.nodes c.in_ok-alike.alike s2 c.add-3.new.self.nodes c.in_ok-implied.implied s3
+    c.add-4.new.self.nodes c.in_ok-both.both c.in_ok-both.ensures.added c.in_ok-both.ensures.number
+
+pub returns-clause-nodes : goal.returns-clause-nodes
+returns-clause-nodes c =
+    let same : c.args.one.map ≡ c.args.other.map = c.if-one-other.false in
+    let test : nat_eq c.args.one.map c.args.other.map ≡ true = grind (arith, nat_tests, same) in
+    four_more c.args.out.now.nodes c.add.new.self.nodes c.add-2.new.self.nodes c.add-3.new.self.nodes c.add-4.new.self.nodes _ _ _ _ (nat_eq c.args.one.map c.args.other.map) test
+    c.in_ok-same.ensures.added c.in_ok-alike.ensures.added c.in_ok-implied.ensures.added c.in_ok-both.ensures.added
