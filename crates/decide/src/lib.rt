@@ -1,0 +1,11 @@
+//! Questions over bool, bit vectors and maps, decided: by values that answer them, or by a formula and a log that refutes
+//! it.
+#![tactic(auto)]
+
+mod decision;
+mod solving;
+#[cfg(test)]
+mod tests;
+
+pub use decision::Decision;
+pub use solving::decide;
