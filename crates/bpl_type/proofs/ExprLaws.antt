@@ -1,18 +1,14 @@
 -- What the answers for operands lead to.
-use Rattle.std.proofs.Common.{◌≡◌, ℕ, ◌+◌, Bool, true, false, List, [], ◌∷◌, ◌++◌, map, fold, drop, Option, Some, None, Result, Ok, Err, refl, sym, ◌∙◌, ap, append_assoc}
-use Rattle.bpl_ast.specs.declared.expr.Bracket.{Bracket, out-Bracket}
-use Rattle.bpl_ast.specs.declared.expr.Bracket.TheOpen.{Bracket-F, Expr-F}
+use Rattle.std.proofs.Common.{◌≡◌, ℕ, List, [], ◌∷◌, ◌++◌, map, fold, Result, Ok, Err, refl, sym, ◌∙◌, ap, append_assoc}
+use Rattle.bpl_ast.specs.declared.expr.Bracket.{Bracket}
+use Rattle.bpl_ast.specs.declared.expr.Bracket.TheOpen.{Bracket-F}
 use Rattle.bpl_ast.specs.declared.expr.Bracket.TheFolds.{fold_out-Bracket}
-use Rattle.bpl_ast.specs.declared.expr.Expr.{Expr}
-use Rattle.hy_text.specs.declared.refusal.Or.{Or}
-use Rattle.hy_text.specs.declared.refusal.Or.TheVariants as ors
 use Rattle.hy_val.specs.declared.sort.Sort.{Sort}
 use Rattle.bpl_type.specs.declared.fault.TypeFault.{TypeFault}
 use Rattle.bpl_type.specs.declared.operand.Operand.{Operand}
 use Rattle.bpl_type.specs.declared.tables.Scope.{Scope}
 use Rattle.bpl_type.specs.declared.tables.Tables.{Tables}
-use Rattle.bpl_type.specs.ExprSorts.{Checked, Part, with_sort, with_operand, with_operands, selected, stored, extracted, bracket_node, bracket_part, part_node, part}
-use Rattle.bpl_type.specs.Tells.{Answers, Tells, TellsOperand, TellsOperands}
+use Rattle.bpl_type.specs.ExprSorts.{Checked, Part, with_sort, with_operand, with_operands, selected, stored, extracted, bracket_node, bracket_part, part_node}
 
 sort-is : {A : Type 0} (c : Checked) (s : Sort) (next : Sort → Result A TypeFault) → c ≡ Ok s → with_sort c next ≡ next s
 sort-is c s next h = ap (λ v. with_sort v next) h

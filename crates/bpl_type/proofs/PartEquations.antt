@@ -1,5 +1,5 @@
 -- What is told of an expression, by its outermost node.
-use Rattle.std.proofs.Common.{◌≡◌, ℕ, List, [], ◌∷◌, map, ap, rules}
+use Rattle.std.proofs.Common.{◌≡◌, ℕ, List, map, ap, rules}
 use Rattle.bpl_ast.specs.declared.expr.Bracket.{Bracket}
 use Rattle.bpl_ast.specs.declared.expr.Bracket.TheFolds.{the_lemmas}
 use Rattle.bpl_ast.specs.declared.expr.Bracket.TheOpen.{Bracket-F, Expr-F}
@@ -86,6 +86,8 @@ part-store t s x y = search (rules, the_lemmas)
 pub part-extract : (t : Tables) (s : Scope) (high : ℕ) (low : ℕ) → bracket_part t s (brackets.Extract high low) ≡ bracket_node (Bracket-F.Extract high low)
 unfolding part bracket_part
 part-extract t s high low = search (rules, the_lemmas)
+
+pub ruleset parts = (part-true, part-false, part-literal, part-variable, part-apply, part-post, part-not, part-concat, part-equal, part-not_equal, part-and, part-or, part-implies, part-implied_by, part-equivalent, part-choice)
 
 -- what the brackets make of a part
 

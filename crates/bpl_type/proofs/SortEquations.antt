@@ -7,6 +7,7 @@ use Rattle.bpl_ast.specs.declared.sort.Sort.TheFolds.{the_lemmas}
 use Rattle.bpl_ast.specs.declared.sort.Sort.TheOpen.{Sort-F}
 use Rattle.bpl_ast.specs.declared.sort.Sort.TheVariants as sorts
 use Rattle.hy_val.specs.declared.sort.Sort.{Sort as Resolved}
+use Rattle.bpl_type.specs.Memos.{heads, head_node}
 use Rattle.bpl_type.specs.Sorts.{sort_part, sort_node, mentions, mention_node, resolved_by, resolved_node, part_of, type_number, names_map}
 
 pub part-boolean : (is_type is_map : List ℕ → Bool) (at : ℕ) → sort_part is_type is_map (sorts.Boolean at) ≡ sort_node is_type is_map (Sort-F.Boolean at)
@@ -76,3 +77,20 @@ of-named types n = part-named _ _ n
 pub of-map : (types : List Synonym) (at : ℕ) (x y : Sort) → part_of types (sorts.Map at x y) ≡ sort_node (known types) (names_map (length types) types) (Sort-F.Map at (part_of types x) (part_of types y))
 unfolding part_of
 of-map types at x y = part-map _ _ at x y
+
+-- the name that a sort is
+pub heads-boolean : (at : ℕ) → heads (sorts.Boolean at) ≡ head_node (Sort-F.Boolean at)
+unfolding heads
+heads-boolean at = search (rules, the_lemmas)
+
+pub heads-bits : (at width : ℕ) (text : List ℕ) → heads (sorts.Bits at width text) ≡ head_node (Sort-F.Bits at width text)
+unfolding heads
+heads-bits at width text = search (rules, the_lemmas)
+
+pub heads-named : (n : Name) → heads (sorts.Named n) ≡ head_node (Sort-F.Named n)
+unfolding heads
+heads-named n = search (rules, the_lemmas)
+
+pub heads-map : (at : ℕ) (x y : Sort) → heads (sorts.Map at x y) ≡ head_node (Sort-F.Map at (heads x) (heads y))
+unfolding heads
+heads-map at x y = search (rules, the_lemmas)

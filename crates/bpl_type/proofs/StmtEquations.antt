@@ -14,18 +14,14 @@ use Rattle.bpl_ast.specs.declared.stmt.Stmt.TheVariants as stmts
 use Rattle.bpl_ast.specs.declared.stmt.Target.{Target}
 use Rattle.bpl_type.specs.declared.tables.Scope.{Scope}
 use Rattle.bpl_type.specs.declared.tables.Tables.{Tables}
-use Rattle.bpl_type.specs.declared.fault.TypeFault.{TypeFault}
 use Rattle.bpl_type.specs.declared.typed.TypedStmt.{TypedStmt}
 use Rattle.bpl_type.specs.Commands as commands
-use Rattle.bpl_type.specs.Commands.{stmt_faults}
+use Rattle.bpl_type.specs.Commands.{stmt_faults, if_faults}
 use Rattle.bpl_type.specs.Passes.{exprs_of, else_exprs, stmt_exprs, if_exprs}
 use Rattle.bpl_type.specs.TypedOf as forms
 use Rattle.bpl_type.specs.TypedOf.{stmt_of}
 
 -- the same of an `if`
-abbrev pub if_faults : Tables → Scope → If → List TypeFault
-if_faults t s = fold-If (List TypeFault) (List TypeFault) (List TypeFault) commands.else_node (commands.stmt_node t s) (commands.if_node t s)
-
 abbrev pub exprs_of_if : If → List Expr
 exprs_of_if = fold-If (List Expr) (List Expr) (List Expr) else_exprs stmt_exprs if_exprs
 

@@ -1,7 +1,7 @@
 -- The term of an expression, by its outermost node.
-use Rattle.std.proofs.Common.{◌≡◌, ℕ, List, [], ◌∷◌, map, ap, rules}
+use Rattle.std.proofs.Common.{◌≡◌, ℕ, List, map, ap, rules}
 use Rattle.bpl_ast.specs.declared.expr.Bracket.{Bracket}
-use Rattle.bpl_ast.specs.declared.expr.Bracket.TheFolds.{fold-Bracket, the_lemmas}
+use Rattle.bpl_ast.specs.declared.expr.Bracket.TheFolds.{the_lemmas}
 use Rattle.bpl_ast.specs.declared.expr.Bracket.TheOpen.{Bracket-F, Expr-F}
 use Rattle.bpl_ast.specs.declared.expr.Bracket.TheVariants as brackets
 use Rattle.bpl_ast.specs.declared.expr.Expr.{Expr}
@@ -9,12 +9,8 @@ use Rattle.bpl_ast.specs.declared.expr.Expr.TheVariants as e
 use Rattle.bpl_ast.specs.declared.name.Name.{Name}
 use Rattle.bpl_type.specs.declared.tables.Scope.{Scope}
 use Rattle.bpl_type.specs.declared.tables.Tables.{Tables}
-use Rattle.bpl_type.specs.Replaced.{Use, term_by, bracket_node, term_node}
+use Rattle.bpl_type.specs.Replaced.{Use, term_by, bracket_term, bracket_node, term_node}
 use Rattle.bpl_type.specs.Terms.{Term}
-
--- what a bracket makes of what stands before it
-unfoldable pub bracket_term : Use → Tables → Scope → Bracket → Term → Term
-bracket_term u t s = fold-Bracket (Term → Term) Term bracket_node (term_node u t s)
 
 pub term-true : (u : Use) (t : Tables) (s : Scope) (at : ℕ) → term_by u t s (e.True at) ≡ term_node u t s (Expr-F.True at)
 unfolding term_by bracket_term
@@ -102,3 +98,5 @@ on-store u t s x y a = ap (λ f. f a) (term-store u t s x y)
 
 pub on-extract : (u : Use) (t : Tables) (s : Scope) (high low : ℕ) (a : Term) → bracket_term u t s (brackets.Extract high low) a ≡ bracket_node (Bracket-F.Extract high low) a
 on-extract u t s high low a = ap (λ f. f a) (term-extract u t s high low)
+
+pub ruleset terms = (term-true, term-false, term-literal, term-variable, term-apply, term-post, term-not, term-concat, term-equal, term-not_equal, term-and, term-or, term-implies, term-implied_by, term-equivalent, term-choice, on-select, on-store, on-extract)

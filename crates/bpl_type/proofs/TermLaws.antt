@@ -1,5 +1,5 @@
 -- The list of nodes of a term: how long it is, and the sorts of its nodes.
-use Rattle.std.proofs.Common.{◌≡◌, ℕ, zero, suc, ◌+◌, ◌-◌, ◌<◌, ◌≤◌, Bool, true, false, List, [], ◌∷◌, ◌++◌, length, slice_get, Option, Some, None, refl, sym, ◌∙◌, ap, subst, arith, append_assoc, length-append, zero-add}
+use Rattle.std.proofs.Common.{◌≡◌, ℕ, zero, suc, ◌+◌, ◌-◌, ◌<◌, true, false, List, [], ◌∷◌, ◌++◌, length, slice_get, Option, Some, None, refl, sym, ◌∙◌, ap, subst, arith, append_assoc, length-append, zero-add}
 use Rattle.std.proofs.lemmas.List.{append-nil}
 use Rattle.std.specs.Option.{option_and_then}
 use Rattle.hy_val.specs.Exprs.{sort_of_node, sorts_onto, is_empty, is_expr}
@@ -95,26 +95,26 @@ moved known t s n at l = record { all = l.made.all; counted = l.made.counted; on
 -- ---- operands
 
 -- a sort that is there, where a test of it is passed
-there : (o : Option Sort) (test : Option Sort → Option Sort) (s : Sort) → test None ≡ None → test o ≡ Some s → (x : Sort) × (o ≡ Some x)
+pub there : (o : Option Sort) (test : Option Sort → Option Sort) (s : Sort) → test None ≡ None → test o ≡ Some s → (x : Sort) × (o ≡ Some x)
 there None test s none h = absurd (cc)
 there (Some x) test s none h = (x, refl)
 
-binary-none : (op : BvOp) (o : Option Scalar) → binary_sort op o None ≡ None
+pub binary-none : (op : BvOp) (o : Option Scalar) → binary_sort op o None ≡ None
 binary-none op None = refl
 binary-none op (Some x) = refl
 
-select-none : (o : Option Sort) → select_sort o None ≡ None
+pub select-none : (o : Option Sort) → select_sort o None ≡ None
 select-none None = refl
 select-none (Some (ScalarSort x)) = refl
 select-none (Some (MapSort index elem)) = refl
 
-if-none : (o : Option Scalar) (one : Option Sort) → if_sort o one None ≡ None
+pub if-none : (o : Option Scalar) (one : Option Sort) → if_sort o one None ≡ None
 if-none None one = refl
 if-none (Some BoolSort) None = refl
 if-none (Some BoolSort) (Some s) = refl
 if-none (Some (BvSort w)) one = refl
 
-if-nothing : (o : Option Scalar) (other : Option Sort) → if_sort o None other ≡ None
+pub if-nothing : (o : Option Scalar) (other : Option Sort) → if_sort o None other ≡ None
 if-nothing None other = refl
 if-nothing (Some BoolSort) other = refl
 if-nothing (Some (BvSort w)) other = refl
@@ -123,12 +123,12 @@ written-none : (index elem : Scalar) (o : Option Scalar) → written_sort index 
 written-none index elem None = refl
 written-none index elem (Some x) = refl
 
-store-none : (m : Option Sort) (o : Option Scalar) → store_sort m o None ≡ None
+pub store-none : (m : Option Sort) (o : Option Scalar) → store_sort m o None ≡ None
 store-none None o = refl
 store-none (Some (ScalarSort x)) o = refl
 store-none (Some (MapSort index elem)) o = written-none index elem o
 
-store-nothing : (m : Option Sort) (o : Option Scalar) → store_sort m None o ≡ None
+pub store-nothing : (m : Option Sort) (o : Option Scalar) → store_sort m None o ≡ None
 store-nothing None o = refl
 store-nothing (Some (ScalarSort x)) o = refl
 store-nothing (Some (MapSort index elem)) o = refl

@@ -1,17 +1,14 @@
 -- The functions that an expression uses, by its outermost node.
-use Rattle.std.proofs.Common.{◌≡◌, ℕ, List, [], ◌∷◌, map, rules}
+use Rattle.std.proofs.Common.{◌≡◌, ℕ, List, map, rules}
 use Rattle.bpl_ast.specs.declared.expr.Bracket.{Bracket}
-use Rattle.bpl_ast.specs.declared.expr.Bracket.TheFolds.{fold-Bracket, the_lemmas}
+use Rattle.bpl_ast.specs.declared.expr.Bracket.TheFolds.{the_lemmas}
 use Rattle.bpl_ast.specs.declared.expr.Bracket.TheOpen.{Bracket-F, Expr-F}
 use Rattle.bpl_ast.specs.declared.expr.Bracket.TheVariants as brackets
 use Rattle.bpl_ast.specs.declared.expr.Expr.{Expr}
 use Rattle.bpl_ast.specs.declared.expr.Expr.TheVariants as e
 use Rattle.bpl_ast.specs.declared.name.Name.{Name}
+pub use Rattle.bpl_type.specs.Uses.{in_bracket}
 use Rattle.bpl_type.specs.Passes.{uses, bracket_uses, expr_uses}
-
--- those that a bracket uses
-unfoldable pub in_bracket : Bracket → List (List ℕ)
-in_bracket = fold-Bracket (List (List ℕ)) (List (List ℕ)) bracket_uses expr_uses
 
 pub uses-true : (at : ℕ) → uses (e.True at) ≡ expr_uses (Expr-F.True at)
 unfolding uses in_bracket

@@ -49,3 +49,8 @@ abbrev pub Gives : Result Typed (Or TypeFault) → Result Typed TypeFault → Ty
 Gives (Ok program) check = check ≡ Ok program
 Gives (Err (ors.Fault f)) check = check ≡ Err f
 Gives (Err ors.NoMemory) check = Unit {0}
+
+-- the fault that checking tells, whatever the limit; or that the sizes of expressions decide
+abbrev pub TellsBeforeSizes : Ast → Option TypeFault → Type 0
+TellsBeforeSizes ast None = (limit : ℕ) → checked_within limit ast ≡ after_sizes ast (first (large_faults limit ast))
+TellsBeforeSizes ast (Some f) = (limit : ℕ) → checked_within limit ast ≡ Err f

@@ -1,12 +1,13 @@
 -- The faults of statements: those of their expressions, and those of their names, targets and values.
-use Rattle.std.specs.Prelude.{ℕ, Bool, true, false, not, ◌&&◌, ◌||◌, nat_eq, List, [], ◌∷◌, ◌++◌, length, map, flat_map, Option, None, Some, option_map, Result, Ok, Err}
+use Rattle.std.specs.Prelude.{ℕ, Bool, not, ◌||◌, nat_eq, List, [], ◌∷◌, ◌++◌, length, map, flat_map, Option, None, Some, option_map, Ok, Err}
 use Rattle.bpl_ast.specs.declared.expr.Expr.{Expr}
 use Rattle.bpl_ast.specs.declared.name.Name.{Name}
-use Rattle.bpl_ast.specs.declared.stmt.Else.TheFolds.{fold-Stmt}
+use Rattle.bpl_ast.specs.declared.stmt.Else.{Else}
+use Rattle.bpl_ast.specs.declared.stmt.Else.TheFolds.{fold-Stmt, fold-If, fold-Else}
 use Rattle.bpl_ast.specs.declared.stmt.Else.TheOpen.{Else-F, Stmt-F, If-F}
 use Rattle.bpl_ast.specs.declared.stmt.Guard.{Guard}
 use Rattle.bpl_ast.specs.declared.stmt.Guard.TheVariants.{Any, Condition}
-use Rattle.bpl_ast.specs.declared.stmt.Invariant.{Invariant}
+use Rattle.bpl_ast.specs.declared.stmt.If.{If}
 use Rattle.bpl_ast.specs.declared.stmt.Stmt.{Stmt}
 use Rattle.bpl_ast.specs.declared.stmt.Target.{Target}
 use Rattle.bpl_ast.specs.declared.word.Word.TheVariants.{NoBody}
@@ -155,3 +156,10 @@ stmt_node tables scope (Stmt-F.While at attributes guard invariants body) =
 
 unfoldable pub stmt_faults : Tables → Scope → Stmt → List TypeFault
 stmt_faults tables scope = fold-Stmt (List TypeFault) (List TypeFault) (List TypeFault) else_node (stmt_node tables scope) (if_node tables scope)
+
+-- the same of an `if`, and of what stands after `else`
+abbrev pub if_faults : Tables → Scope → If → List TypeFault
+if_faults tables scope = fold-If (List TypeFault) (List TypeFault) (List TypeFault) else_node (stmt_node tables scope) (if_node tables scope)
+
+abbrev pub else_faults : Tables → Scope → Else → List TypeFault
+else_faults tables scope = fold-Else (List TypeFault) (List TypeFault) (List TypeFault) else_node (stmt_node tables scope) (if_node tables scope)

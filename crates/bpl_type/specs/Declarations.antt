@@ -1,5 +1,5 @@
 -- What a program declares, in the order of the text.
-use Rattle.std.specs.Prelude.{ℕ, Bool, true, false, ◌&&◌, List, [], ◌∷◌, ◌++◌, map, flat_map, Option, None, Some, is_some, option_map, codes}
+use Rattle.std.specs.Prelude.{ℕ, Bool, true, false, List, [], ◌∷◌, ◌++◌, map, flat_map, Option, None, Some, is_some, codes}
 use Rattle.std.specs.List.{list_any}
 use Rattle.std.specs.Str.{bytes_eq}
 use Rattle.bpl_ast.specs.declared.decl.Ast.{Ast}
@@ -9,7 +9,6 @@ use Rattle.bpl_ast.specs.declared.decl.Constants.{Constants}
 use Rattle.bpl_ast.specs.declared.decl.Decl.{Decl}
 use Rattle.bpl_ast.specs.declared.decl.Decl.TheVariants as decls
 use Rattle.bpl_ast.specs.declared.decl.Function.{Function}
-use Rattle.bpl_ast.specs.declared.decl.FunctionArgument.{FunctionArgument}
 use Rattle.bpl_ast.specs.declared.decl.FunctionResult.{FunctionResult}
 use Rattle.bpl_ast.specs.declared.decl.FunctionResult.TheVariants.{Returns, Plain}
 use Rattle.bpl_ast.specs.declared.decl.Group.{Group}
@@ -22,7 +21,6 @@ use Rattle.bpl_ast.specs.declared.decl.Variables.{Variables}
 use Rattle.bpl_ast.specs.declared.name.Attribute.{Attribute}
 use Rattle.bpl_ast.specs.declared.name.Name.{Name}
 use Rattle.bpl_ast.specs.declared.sort.Sort.{Sort}
-use Rattle.bpl_type.specs.Names.{name_if}
 
 -- a name, with the sort that the text gives it
 pub record Declared : Type 0 where

@@ -1,10 +1,9 @@
 -- The sort of an expression, or its first fault: the operands come first, from left to right.
-use Rattle.std.specs.Prelude.{ℕ, ◌+◌, ◌-◌, Bool, true, false, not, ◌&&◌, ◌||◌, nat_eq, nat_lt, nat_le, List, [], ◌∷◌, length, fold, find, map, zip, Option, None, Some, Result, Ok, Err, if◌then◌else◌}
+use Rattle.std.specs.Prelude.{ℕ, ◌+◌, ◌-◌, Bool, true, false, not, ◌&&◌, ◌||◌, nat_eq, nat_lt, nat_le, List, [], ◌∷◌, length, fold, map, Option, None, Some, Result, Ok, Err, if◌then◌else◌}
 use Rattle.bpl_ast.specs.declared.expr.Bracket.{Bracket}
 use Rattle.bpl_ast.specs.declared.expr.Bracket.TheOpen.{Bracket-F, Expr-F}
 use Rattle.bpl_ast.specs.declared.expr.Bracket.TheFolds.{fold-Bracket, fold-Expr}
 use Rattle.bpl_ast.specs.declared.expr.Expr.{Expr}
-use Rattle.bpl_ast.specs.declared.name.Name.{Name}
 use Rattle.bpl_ast.specs.declared.word.Word.TheVariants.{MapEquality, Uninterpreted}
 use Rattle.hy_val.specs.NodeSorts.{same_sort}
 use Rattle.hy_val.specs.Operators.{bits_atom}
@@ -24,7 +23,6 @@ use Rattle.bpl_type.specs.declared.tables.Scope.{Scope}
 use Rattle.bpl_type.specs.declared.tables.Signature.{Signature}
 use Rattle.bpl_type.specs.declared.tables.Tables.{Tables}
 use Rattle.bpl_type.specs.Faults.{fault}
-use Rattle.bpl_type.specs.Meanings.{is_bool}
 use Rattle.bpl_type.specs.Scopes.{find_name, function_named}
 
 abbrev pub Checked : Type 0

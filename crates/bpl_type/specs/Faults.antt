@@ -1,5 +1,5 @@
 -- Faults, and which of several comes first.
-use Rattle.std.specs.Prelude.{ℕ, Bool, true, false, not, ◌&&◌, ◌||◌, nat_eq, nat_lt, List, [], ◌∷◌, Option, None, Some, if◌then◌else◌}
+use Rattle.std.specs.Prelude.{ℕ, Bool, ◌&&◌, ◌||◌, nat_eq, nat_lt, List, [], ◌∷◌, Option, None, Some, if◌then◌else◌}
 use Rattle.bpl_type.specs.declared.fault.TypeFault.{TypeFault}
 use Rattle.bpl_type.specs.declared.fault.TypeKind.{TypeKind}
 use Rattle.bpl_type.specs.declared.fault.TypeKind.TheVariants.{Unknown, Twice, Mismatch, Arity, Width, Cyclic, NotAssignable, Large, LeftOut}

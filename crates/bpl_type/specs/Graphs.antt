@@ -1,5 +1,5 @@
 -- Directed graphs: for each node, by its number, the nodes to which an edge leads from it.
-use Rattle.std.specs.Prelude.{ℕ, zero, suc, Bool, true, false, ◌||◌, nat_eq, List, [], length, slice_get, unwrap_or}
+use Rattle.std.specs.Prelude.{ℕ, zero, suc, Bool, false, ◌||◌, nat_eq, List, [], length, slice_get, unwrap_or}
 use Rattle.std.specs.List.{list_any}
 
 abbrev pub Graph : Type 0

@@ -1,9 +1,13 @@
 -- Laws of the definitions.
-use Rattle.std.specs.Prelude.{◌≡◌, ℕ, ◌-◌, List, [], length, slice_get, Option, Some, IsTrue}
+use Rattle.std.specs.Prelude.{◌≡◌, ℕ, ◌-◌, List, [], length, slice_get, Option, Some, Ok, IsTrue}
 use Rattle.std.specs.Option.{option_and_then}
 use Rattle.hy_val.specs.Exprs.{sorts_onto, is_expr}
 use Rattle.hy_val.specs.declared.expr.ExprNode.{ExprNode}
 use Rattle.hy_val.specs.declared.sort.Sort.{Sort}
+use Rattle.bpl_ast.specs.declared.decl.Ast.{Ast}
+use Rattle.bpl_type.specs.declared.typed.Typed.{Typed}
+use Rattle.bpl_type.specs.Checked.{checked_within}
+use Rattle.bpl_type.specs.WellTyped.{is_typed}
 use Rattle.bpl_type.specs.Terms.{Term, size, nodes_of, term_sort}
 
 -- the sort of an expression, which is that of its last node
@@ -18,3 +22,7 @@ pub record AreNodesOf (t : Term) : Type 0 where
 
 abbrev pub TermsAreExpressions : Type 0
 TermsAreExpressions = (t : Term) → AreNodesOf t
+
+-- a program without faults is well typed
+abbrev pub CheckedProgramsAreTyped : Type 0
+CheckedProgramsAreTyped = (ast : Ast) (limit : ℕ) (typed : Typed) → checked_within limit ast ≡ Ok typed → IsTrue (is_typed typed)

@@ -1,5 +1,5 @@
 -- What a function means: its body, or the operator that its attribute `bvbuiltin` names.
-use Rattle.std.specs.Prelude.{ℕ, ◌-◌, min, Bool, true, false, ◌&&◌, ◌==◌, nat_eq, List, [], ◌∷◌, ◌++◌, length, take, drop, filter, flat_map, map, Option, None, Some, is_some, option_map, if◌then◌else◌, codes}
+use Rattle.std.specs.Prelude.{ℕ, ◌-◌, min, Bool, true, false, ◌&&◌, nat_eq, List, [], ◌∷◌, ◌++◌, length, take, drop, filter, flat_map, map, Option, None, Some, if◌then◌else◌, codes}
 use Rattle.std.specs.List.{starts_with, ends_with}
 use Rattle.std.specs.Option.{option_and_then, option_or}
 use Rattle.std.specs.Str.{bytes_eq}

@@ -1,17 +1,13 @@
 -- The five passes: the faults of each.
-use Rattle.std.specs.Prelude.{ℕ, Bool, true, false, not, ◌&&◌, ◌||◌, nat_eq, nat_lt, List, [], ◌∷◌, ◌++◌, length, map, flat_map, filter_map, zip, position, Option, None, Some, is_some, option_to_list, if◌then◌else◌}
+use Rattle.std.specs.Prelude.{ℕ, Bool, true, false, not, ◌&&◌, ◌||◌, nat_lt, List, [], ◌∷◌, ◌++◌, length, map, flat_map, filter_map, position, Option, None, Some, is_some, option_to_list, if◌then◌else◌}
 use Rattle.std.specs.List.{enumerate_from}
 use Rattle.std.specs.Str.{bytes_eq}
 use Rattle.bpl_ast.specs.declared.decl.Ast.{Ast}
 use Rattle.bpl_ast.specs.declared.decl.Body.{Body}
-use Rattle.bpl_ast.specs.declared.decl.Constants.{Constants}
 use Rattle.bpl_ast.specs.declared.decl.Decl.{Decl}
 use Rattle.bpl_ast.specs.declared.decl.Decl.TheVariants as decls
 use Rattle.bpl_ast.specs.declared.decl.Function.{Function}
-use Rattle.bpl_ast.specs.declared.decl.FunctionResult.{FunctionResult}
 use Rattle.bpl_ast.specs.declared.decl.Heads.{Heads}
-use Rattle.bpl_ast.specs.declared.decl.Implementation.{Implementation}
-use Rattle.bpl_ast.specs.declared.decl.Procedure.{Procedure}
 use Rattle.bpl_ast.specs.declared.decl.Synonym.{Synonym}
 use Rattle.bpl_ast.specs.declared.expr.Bracket.TheOpen.{Bracket-F, Expr-F}
 use Rattle.bpl_ast.specs.declared.expr.Bracket.TheFolds.{fold-Expr}
@@ -23,7 +19,6 @@ use Rattle.bpl_ast.specs.declared.stmt.Else.TheOpen.{Else-F, Stmt-F, If-F}
 use Rattle.bpl_ast.specs.declared.stmt.Guard.{Guard}
 use Rattle.bpl_ast.specs.declared.stmt.Guard.TheVariants.{Any, Condition}
 use Rattle.bpl_ast.specs.declared.stmt.Stmt.{Stmt}
-use Rattle.bpl_ast.specs.declared.stmt.Target.{Target}
 use Rattle.bpl_ast.specs.declared.word.Word.TheVariants.{UniqueMap}
 use Rattle.hy_val.specs.NodeSorts.{same_sort}
 use Rattle.hy_val.specs.declared.sort.Sort.{Sort as Resolved}
@@ -37,7 +32,7 @@ use Rattle.bpl_type.specs.declared.tables.Scope.{Scope}
 use Rattle.bpl_type.specs.declared.tables.Signature.{Signature}
 use Rattle.bpl_type.specs.declared.tables.Tables.{Tables}
 use Rattle.bpl_type.specs.Commands.{value_faults, condition_faults, stmt_faults, differ}
-use Rattle.bpl_type.specs.Declarations.{synonyms, functions, procedures, axioms, has_builtin, in_parameters, in_heads, in_body, result_sort, result_name, value_names, body_names}
+use Rattle.bpl_type.specs.Declarations.{synonyms, functions, procedures, has_builtin, in_parameters, in_heads, in_body, result_sort, result_name, value_names, body_names}
 use Rattle.bpl_type.specs.ExprSorts.{part}
 use Rattle.bpl_type.specs.Faults.{fault, told}
 use Rattle.bpl_type.specs.Graphs.{Graph, is_on_circle}

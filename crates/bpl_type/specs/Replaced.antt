@@ -1,10 +1,11 @@
 -- The term that an expression is once each function is replaced by its meaning.
-use Rattle.std.specs.Prelude.{ℕ, zero, suc, ◌-◌, Bool, true, false, List, [], ◌∷◌, length, fold, find, slice_get, unwrap_or, Option, None, Some, option_map}
+use Rattle.std.specs.Prelude.{ℕ, zero, suc, true, false, List, length, fold, find, slice_get, unwrap_or, Option, None, Some}
 use Rattle.std.specs.Option.{option_and_then}
 use Rattle.std.specs.Str.{bytes_eq}
 use Rattle.bpl_ast.specs.declared.decl.Function.{Function}
 use Rattle.bpl_ast.specs.declared.expr.Bracket.TheOpen.{Bracket-F, Expr-F}
-use Rattle.bpl_ast.specs.declared.expr.Bracket.TheFolds.{fold-Expr}
+use Rattle.bpl_ast.specs.declared.expr.Bracket.{Bracket}
+use Rattle.bpl_ast.specs.declared.expr.Bracket.TheFolds.{fold-Expr, fold-Bracket}
 use Rattle.bpl_ast.specs.declared.expr.Expr.{Expr}
 use Rattle.hy_val.specs.Operators.{bits_atom}
 use Rattle.hy_val.specs.declared.expr.Var.{Var}
@@ -54,6 +55,10 @@ term_node use_of tables scope (Expr-F.Choice at condition one other) = choice co
 
 unfoldable pub term_by : Use → Tables → Scope → Expr → Term
 term_by use_of tables scope = fold-Expr (Term → Term) Term bracket_node (term_node use_of tables scope)
+
+-- what a bracket makes of what stands before it
+unfoldable pub bracket_term : Use → Tables → Scope → Bracket → Term → Term
+bracket_term use_of tables scope = fold-Bracket (Term → Term) Term bracket_node (term_node use_of tables scope)
 
 -- ---- functions
 

@@ -1,6 +1,6 @@
 -- Expressions without functions, as trees, and the list of nodes that a tree is: in it the nodes of the operands stand first, from left to
 -- right, before the node that uses them, and no node is shared by two uses.
-use Rattle.std.specs.Prelude.{ℕ, ◌+◌, ◌-◌, Bool, false, List, [], ◌∷◌, ◌++◌, fold, slice_get, unwrap_or, Option, None, Some}
+use Rattle.std.specs.Prelude.{ℕ, ◌+◌, ◌-◌, Bool, false, List, [], ◌∷◌, ◌++◌, fold, slice_get, unwrap_or, Option}
 use Rattle.hy_val.specs.NodeSorts.{as_scalar, unary_sort, binary_sort, if_sort, select_sort, store_sort}
 use Rattle.hy_val.specs.Exprs.{sort_of_node}
 use Rattle.hy_val.specs.declared.atom.Atom.{Atom}

@@ -1,5 +1,5 @@
 -- The typed program of a tree that has no fault.
-use Rattle.std.specs.Prelude.{ℕ, suc, ◌+◌, Bool, true, false, List, [], ◌∷◌, ◌++◌, map, flat_map, filter, find, position, unwrap_or, Option, None, Some, option_map}
+use Rattle.std.specs.Prelude.{ℕ, ◌+◌, Bool, true, false, List, [], ◌∷◌, map, flat_map, filter, find, position, unwrap_or, Option, None, Some, option_map}
 use Rattle.std.specs.Str.{bytes_eq}
 use Rattle.bpl_ast.specs.declared.decl.Ast.{Ast}
 use Rattle.bpl_ast.specs.declared.decl.Body.{Body}
@@ -7,7 +7,6 @@ use Rattle.bpl_ast.specs.declared.decl.Function.{Function}
 use Rattle.bpl_ast.specs.declared.decl.Heads.{Heads}
 use Rattle.bpl_ast.specs.declared.decl.Implementation.{Implementation}
 use Rattle.bpl_ast.specs.declared.decl.Procedure.{Procedure}
-use Rattle.bpl_ast.specs.declared.decl.Synonym.{Synonym}
 use Rattle.bpl_ast.specs.declared.expr.Expr.{Expr}
 use Rattle.bpl_ast.specs.declared.name.Name.{Name}
 use Rattle.bpl_ast.specs.declared.stmt.Else.TheFolds.{fold-Stmt}
@@ -21,10 +20,8 @@ use Rattle.hy_val.specs.declared.expr.ExprNode.{ExprNode}
 use Rattle.hy_val.specs.declared.expr.Var.{Var}
 use Rattle.hy_val.specs.declared.expr.Var.TheVariants.{Local}
 use Rattle.hy_val.specs.declared.sort.Sort.{Sort}
-use Rattle.bpl_type.specs.declared.tables.Heading.{Heading}
 use Rattle.bpl_type.specs.declared.tables.Scope.{Scope}
 use Rattle.bpl_type.specs.declared.tables.Tables.{Tables}
-use Rattle.bpl_type.specs.declared.typed.Named.{Named}
 use Rattle.bpl_type.specs.declared.typed.Typed.{Typed}
 use Rattle.bpl_type.specs.declared.typed.TypedBody.{TypedBody}
 use Rattle.bpl_type.specs.declared.typed.TypedInvariant.{TypedInvariant}

@@ -1,15 +1,13 @@
 //! What operators ask of the sorts of their operands.
 
-ghost use Rattle.std.specs.Prelude.{◌≡◌, map, Ok};
-ghost use Rattle.std.specs.Option.{option_copied};
+ghost use Rattle.std.specs.Prelude.{◌≡◌, Ok};
 ghost use Rattle.hy_val.specs.NodeSorts.{same_sort};
 ghost use Rattle.hy_val.specs.Sorts.{same_scalar};
 ghost use Rattle.bpl_type.specs.ExprSorts as spec;
 ghost use Rattle.bpl_type.specs.Faults.{fault};
 
 use crate::fault::{TypeFault, TypeKind};
-use crate::tables::{Meaning, Signature};
-use crate::typed::Named;
+use crate::tables::Meaning;
 use bpl_ast::Word;
 use hy_val::{Scalar, ScalarKind, Sort, SortKind, Width};
 
@@ -56,7 +54,8 @@ pub fn same_sort(left: Sort, right: Sort) -> bool
     }
 }
 
-fn mismatch(operand: &Operand) -> TypeFault
+/// That an operand has not the sort that its place asks for.
+pub fn mismatch(operand: &Operand) -> TypeFault
     ensures { result ≡ fault operand.now.at TypeKind.Mismatch }
 {
     TypeFault {
@@ -72,35 +71,8 @@ pub fn bool_sort() -> Sort
     Sort::scalar(Scalar::bool())
 }
 
-/// The sort of a conjunction and the like: each operand is a bool, else Mismatch at the first that
-/// is none.
-pub fn all_bools(operands: &[Operand]) -> Result<Sort, TypeFault>
-    ensures { result ≡ spec.all_bools operands.now }
-{
-    let wanted = bool_sort();
-    for operand in operands {
-        if !same_sort(operand.sort, wanted) {
-            return Err(mismatch(operand));
-        }
-    }
-    Ok(wanted)
-}
-
-/// The sort of a chain of bools that begins at an offset. Arity where it has no operand, which no
-/// text has.
-pub fn chain_of_bools(at: usize, operands: &[Operand]) -> Result<Sort, TypeFault>
-    ensures { result ≡ spec.chain_of_bools at operands.now }
-{
-    if operands.is_empty() {
-        return Err(TypeFault {
-            at,
-            kind: TypeKind::Arity,
-        });
-    }
-    all_bools(operands)
-}
-
-fn width_of(operand: &Operand) -> Result<Width, TypeFault>
+/// The width of an operand: Mismatch where it is no bit vector.
+pub fn width_of(operand: &Operand) -> Result<Width, TypeFault>
     ensures { result ≡ spec.with_width operand.now operand.now.sort (λ w. Ok w) }
 {
     match operand.sort.kind() {
@@ -263,97 +235,8 @@ pub fn implies(left: &Operand, right: &Operand) -> Result<Sort, TypeFault>
     }
 }
 
-// The width of a chain of `++` whose operands so far have a width.
-fn joined_after(at: usize, first: Width, operands: &[Operand]) -> Result<Sort, TypeFault>
-    ensures { result ≡ spec.joined_after at first operands.now }
-{
-    let mut width = first;
-    for operand in operands {
-        let more = width_of(operand)?;
-        if more.bits() > Width::MAX - width.bits() {
-            return Err(TypeFault {
-                at,
-                kind: TypeKind::Width,
-            });
-        }
-        width = Width::new(width.bits() + more.bits());
-    }
-    Ok(Sort::scalar(Scalar::bits(width)))
-}
-
-/// The sort of a chain of `++` that begins at an offset, from left to right: Mismatch at an operand
-/// that is no bit vector, Width where the widths so far add up to more than 64, and Arity where
-/// there is no operand, which no text has.
-pub fn joined(at: usize, operands: &[Operand]) -> Result<Sort, TypeFault>
-    ensures { result ≡ spec.joined at operands.now }
-{
-    match operands {
-        [] => Err(TypeFault {
-            at,
-            kind: TypeKind::Arity,
-        }),
-        [first, rest @ ..] => {
-            let width = width_of(first)?;
-            joined_after(at, width, rest)
-        }
-    }
-}
-
-// Mismatch at the first argument that has not its sort.
-fn all_fit(arguments: &[Named], operands: &[Operand], output: Sort) -> Result<Sort, TypeFault>
-    ensures { result ≡ spec.all_fit (map (λ a. a.sort) arguments.now) operands.now output }
-{
-    let mut rest = operands;
-    for argument in arguments {
-        match rest {
-            [] => return Ok(output),
-            [operand, more @ ..] => {
-                if !same_sort(operand.sort, argument.sort) {
-                    return Err(mismatch(operand));
-                }
-                rest = more;
-            }
-        }
-    }
-    Ok(output)
-}
-
-/// The sort of a use of a function at an offset, where it is known: Unknown, else Arity, else
-/// `uninterpreted` where it has no meaning, else Mismatch at the first argument that has not its
-/// sort.
-pub fn applied(
-    at: usize,
-    function: Option<&Signature>,
-    operands: &[Operand],
-) -> Result<Sort, TypeFault>
-    ensures { result ≡ spec.applied at (option_copied function.entry) operands.now }
-{
-    match function {
-        None => Err(TypeFault {
-            at,
-            kind: TypeKind::Unknown,
-        }),
-        Some(signature) => {
-            if signature.arguments.len() != operands.len() {
-                return Err(TypeFault {
-                    at,
-                    kind: TypeKind::Arity,
-                });
-            }
-            if is_nothing(signature.meaning) {
-                return Err(TypeFault {
-                    at,
-                    kind: TypeKind::LeftOut {
-                        what: Word::Uninterpreted,
-                    },
-                });
-            }
-            all_fit(signature.arguments.as_slice(), operands, signature.output)
-        }
-    }
-}
-
-fn is_nothing(meaning: Meaning) -> bool
+/// Whether a function has no meaning.
+pub fn is_nothing(meaning: Meaning) -> bool
     ensures { result ≡ spec.is_nothing meaning }
 {
     match meaning {

@@ -1,11 +1,10 @@
-use Rattle.std.proofs.Common.{◌≡◌, ℕ, Bool, true, false, not, Option, Some, sym, ◌∙◌, ap, subst}
+use Rattle.std.proofs.Common.{◌≡◌, Bool, not, sym, ◌∙◌, ap}
 use Rattle.std.specs.List.{list_any}
 use Rattle.std.specs.Str.{bytes_eq}
-use Rattle.bpl_type.specs.declared.fault.TypeFault.{TypeFault}
 use Rattle.bpl_type.specs.Faults.{earlier}
 use Rattle.bpl_type.proofs.repeats.repeats.Goals as goal
 use Rattle.bpl_type.proofs.repeats.repeats.Goals.{then-not-branch, else-not-branch}
-use Rattle.bpl_type.proofs.RepeatLaws.{Steps, turn, after-new, after-old, fault_if, not-true, not-false}
+use Rattle.bpl_type.proofs.RepeatLaws.{turn, after-new, after-old, fault_if, not-true, not-false}
 
 pub loop-name-preserved : goal.loop-name-preserved
 loop-name-preserved c =

@@ -1,4 +1,4 @@
-use Rattle.std.proofs.Common.{◌≡◌, ℕ, List, Bool, map, take, drop}
+use Rattle.std.proofs.Common.{◌≡◌, ℕ, List, map, take, drop}
 use Rattle.std.specs.List.{list_any}
 use Rattle.std.specs.Str.{bytes_eq}
 use Rattle.bpl_type.specs.Faults.{earlier, first}
