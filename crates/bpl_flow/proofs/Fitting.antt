@@ -1,5 +1,5 @@
 -- Statements that fit have parts that fit.
-use Rattle.std.proofs.Common.{◌≡◌, ℕ, ◌+◌, ◌<◌, Bool, true, false, ◌&&◌, List, [], ◌∷◌, length, get_or, map, Option, None, Some, refl, ◌∙◌, sym, subst, zero, suc, arith, rules}
+use Rattle.std.proofs.Common.{◌≡◌, ℕ, ◌<◌, Bool, true, false, ◌&&◌, List, [], ◌∷◌, length, get_or, map, Option, None, Some, refl, ◌∙◌, sym, subst, zero, suc, arith, rules}
 use Rattle.std.specs.List.{list_all}
 use Rattle.std.proofs.lemmas.List.Folds.{list_all-map}
 use Rattle.bpl_flow.specs.Fits.{Fits, AllFit, ProcsFit, is_bool, is_guard}

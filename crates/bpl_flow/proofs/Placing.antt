@@ -1,5 +1,5 @@
 -- Blocks are put in by number, the last that ended first, so that of two with one number the first stays.
-use Rattle.std.proofs.Common.{◌≡◌, ℕ, ◌+◌, ◌<◌, ◌≤◌, Bool, false, nat_eq, List, [], ◌∷◌, ◌++◌, length, replicate, Some, refl, ap, sym, ◌∙◌, append_assoc, subst, zero, suc, arith}
+use Rattle.std.proofs.Common.{◌≡◌, ℕ, ◌+◌, ◌<◌, ◌≤◌, false, nat_eq, List, [], ◌∷◌, ◌++◌, length, replicate, Some, refl, ap, sym, ◌∙◌, append_assoc, subst, zero, suc, arith}
 use Rattle.std.specs.Prelude.{slice_set}
 use Rattle.std.proofs.lemmas.Bool.{eq-eqb, ne_eqb}
 use Rattle.std.proofs.lemmas.List.{append-nil}
@@ -68,7 +68,7 @@ Placing-end places exits all left count blocks e p =
     let same : all ≡ p.placed = p.split ∙ ap (λ bs. bs ++ p.placed) e in
     p.are ∙ ap (λ bs. blocks_from places exits bs 0 count) (sym same)
 
-blocks_from-length : (places : List Place) (exits : List (ℕ × ℕ)) (ended : List Ended) (number left : ℕ) → length (blocks_from places exits ended number left) ≡ left
+pub blocks_from-length : (places : List Place) (exits : List (ℕ × ℕ)) (ended : List Ended) (number left : ℕ) → length (blocks_from places exits ended number left) ≡ left
 blocks_from-length places exits ended number zero = refl
 blocks_from-length places exits ended number (suc left) = omega (arith, blocks_from-length places exits ended (number + 1) left)
 

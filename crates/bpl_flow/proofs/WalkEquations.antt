@@ -1,7 +1,7 @@
 -- What a statement does in the walk, by its outermost node.
 use Rattle.std.proofs.Common.{◌≡◌, ℕ, List, Option, map, rules}
 use Rattle.bpl_ast.specs.declared.name.Name.{Name}
-use Rattle.bpl_flow.specs.Walk.{Step, step, walk}
+use Rattle.bpl_flow.specs.Walk.{step, walk}
 use Rattle.bpl_type.specs.declared.typed.TypedInvariant.{TypedInvariant}
 use Rattle.bpl_type.specs.declared.typed.TypedStmt.{TypedStmt}
 use Rattle.bpl_type.specs.declared.typed.TypedStmt.TheFolds.{the_lemmas}

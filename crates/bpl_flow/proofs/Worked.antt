@@ -1,5 +1,5 @@
 -- The flow of small bodies, computed.
-use Rattle.std.proofs.Common.{◌≡◌, refl, List, [], ◌∷◌, Option, None, Some, true, false}
+use Rattle.std.proofs.Common.{◌≡◌, refl, List, [], ◌∷◌, None, Some, true, false}
 use Rattle.bpl_ast.specs.declared.name.Name.{Name}
 use Rattle.bpl_flow.specs.Flow.{walked, blocks_of, faults_of, first_fault}
 use Rattle.bpl_flow.proofs.WalkEquations.{walk-label, walk-assert, walk-goto, walk-return, walk-break, walk-if, walk-while}

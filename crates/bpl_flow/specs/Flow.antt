@@ -1,5 +1,5 @@
 -- The program that typed statements become, or the first fault of flow in the text.
-use Rattle.std.specs.Prelude.{◌≡◌, ℕ, zero, suc, ◌+◌, Bool, true, false, not, ◌&&◌, ◌||◌, nat_eq, nat_lt, List, [], ◌∷◌, ◌++◌, map, Option, None, Some, Result, Ok, Err, if◌then◌else◌}
+use Rattle.std.specs.Prelude.{◌≡◌, ℕ, zero, suc, ◌+◌, Bool, not, ◌||◌, nat_eq, nat_lt, List, [], ◌∷◌, ◌++◌, map, Option, None, Some, Result, Ok, Err, if◌then◌else◌}
 use Rattle.std.specs.List.{list_all, list_any}
 use Rattle.std.specs.Str.{bytes_eq}
 use Rattle.bpl_flow.specs.Walk.{begin, stop, walk_all}
@@ -23,7 +23,6 @@ use Rattle.src_prog.specs.Program.{Program}
 use Rattle.src_prog.specs.declared.block.Next.{Next}
 use Rattle.src_prog.specs.declared.block.Next.TheVariants.{Goto, Return}
 use Rattle.src_prog.specs.declared.block.SrcBlock.{SrcBlock}
-use Rattle.src_prog.specs.declared.proc.Named.{Named}
 use Rattle.src_prog.specs.declared.proc.SrcProc.{SrcProc}
 
 -- the whole walk of a body; a block that is still current at the end returns

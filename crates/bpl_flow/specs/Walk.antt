@@ -1,7 +1,7 @@
 -- The walk over the statements of a body, which makes blocks (This is Boogie 2, statements; the order in which blocks are made and
 -- asserts are numbered is this project's own). Where an edge leads to a label or past a statement, the number is found at the end.
 use Rattle.std.specs.Prelude.{ℕ, ◌+◌, ◌-◌, Bool, true, false, ◌&&◌, nat_eq, List, [], ◌∷◌, ◌++◌, length, map, filter, Option, None, Some, is_some, if◌then◌else◌}
-use Rattle.std.specs.List.{list_all, list_any}
+use Rattle.std.specs.List.{list_any}
 use Rattle.std.specs.Str.{bytes_eq}
 use Rattle.bpl_ast.specs.declared.name.Name.{Name}
 use Rattle.bpl_flow.specs.declared.fault.FlowFault.{FlowFault}

@@ -1,52 +1,41 @@
 //! The second pass over a walk: numbers take the place of labels and exits, and the blocks stand by number.
 ghost use Rattle.std.specs.Prelude.{◌≡◌, [], map, replicate, OnOk, IfOk};
-ghost use Rattle.bpl_flow.specs.Flow.{place_of, block_of_place, number_at, target, next_of, blocks_from};
+ghost use Rattle.bpl_flow.specs.Flow.{place_of, block_of_place, target, next_of, blocks_from};
 ghost use Rattle.src_prog.specs.declared.block.Next.TheVariants.{Return as Returning};
 
-use crate::faults::find_place;
-use crate::state::{Aim, End, Ended, Place};
+use crate::exits::Exits;
+use crate::places::Places;
+use crate::state::{Aim, End, Ended};
 use sqlite_items::Items;
 use src_prog::{Next, SrcBlock};
 use std::alloc::{AllocError, Global};
 
 /// The block of the first place of a label; 0 where it has none.
-pub fn label_block(places: &[Place], name: &[u8]) -> u32
+pub fn label_block(places: &Places, name: &[u8]) -> u32
     ensures { result ≡ block_of_place (place_of name.now places.now) }
 {
-    match find_place(places, name) {
+    match places.find(name) {
         None => 0,
         Some(place) => place.block,
     }
 }
 
-/// The block of the exit of a statement; 0 where it has none.
-pub fn exit_block(exits: &[(u32, u32)], statement: u32) -> u32
-    ensures { result ≡ number_at statement exits.now }
-{
-    for exit in exits {
-        if exit.0 == statement {
-            return exit.1;
-        }
-    }
-    0
-}
-
 /// The block that an edge leads to.
-pub fn target_block(places: &[Place], exits: &[(u32, u32)], aim: &Aim) -> u32
+pub fn target_block(places: &Places, exits: &Exits, aim: &Aim) -> u32
     ensures { result ≡ target places.now exits.now aim.now }
 {
     match aim {
         Aim::Block { number } => *number,
         Aim::Label { name } => label_block(places, name.as_slice()),
-        Aim::Exit { statement } => exit_block(exits, *statement),
+        Aim::Exit { statement } => exits.find(*statement),
     }
 }
 
 /// The blocks that edges lead to, in order.
 pub fn target_blocks(
     alloc: Global,
-    places: &[Place],
-    exits: &[(u32, u32)],
+    places: &Places,
+    exits: &Exits,
     aims: &[Aim],
 ) -> Result<Items<u32>, AllocError>
     ensures { IfOk result (λ ns. ns ≡ map (target places.now exits.now) aims.now) }
@@ -61,8 +50,8 @@ pub fn target_blocks(
 /// How a block ends, by numbers.
 pub fn numbered_end(
     alloc: Global,
-    places: &[Place],
-    exits: &[(u32, u32)],
+    places: &Places,
+    exits: &Exits,
     end: &End,
 ) -> Result<Next, AllocError>
     ensures { IfOk result (λ n. n ≡ next_of places.now exits.now end.now) }
@@ -93,8 +82,8 @@ pub fn empty_blocks(alloc: Global, count: u32) -> Result<Items<SrcBlock>, AllocE
 /// The blocks by number, of which there are so many.
 pub fn blocks_by_number(
     alloc: Global,
-    places: &[Place],
-    exits: &[(u32, u32)],
+    places: &Places,
+    exits: &Exits,
     ended: Items<Ended>,
     count: u32,
 ) -> Result<Items<SrcBlock>, AllocError>

@@ -3,6 +3,7 @@ ghost use Rattle.std.specs.Prelude.{◌≡◌, [], ◌∷◌, ◌++◌, true, fa
 ghost use Rattle.bpl_flow.specs.Fits.{is_guard};
 ghost use Rattle.bpl_flow.specs.Walk.{begin_else, end_if, begin_body, is_broken, head_block, end_while};
 
+use crate::breaks::Breaks;
 use crate::current::{going, parting};
 use crate::guards::{assumed, refuted};
 use crate::state::{Aim, Current, Ended, Walk};
@@ -26,10 +27,10 @@ pub fn ended_head(alloc: Global, head: u32, cmds: Items<Cmd>, out: u32) -> Resul
 }
 
 /// Whether a break leaves the loop of a guard.
-pub fn is_left(guard: &Option<Expr>, head: u32, breaks: &[u32]) -> bool
+pub fn is_left(guard: &Option<Expr>, head: u32, breaks: &Breaks) -> bool
     ensures { result ≡ is_broken guard.now head breaks.now }
 {
-    guard.is_some() && breaks.contains(&head)
+    guard.is_some() && breaks.contains(head)
 }
 
 impl Walk {

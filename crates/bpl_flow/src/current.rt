@@ -4,6 +4,8 @@ ghost use Rattle.bpl_flow.specs.Walk.{begin, stop, start, in_block, append, comm
 ghost use Rattle.bpl_flow.specs.declared.state.Aim.TheVariants.{Block};
 ghost use Rattle.bpl_flow.specs.declared.state.End.TheVariants.{Goes};
 
+use crate::breaks::Breaks;
+use crate::places::Places;
 use crate::state::{Aim, Current, End, Ended, Walk};
 use hy_val::Expr;
 use sqlite_items::Items;
@@ -42,9 +44,9 @@ impl Walk {
             ended: Items::new(alloc),
             loops: Items::new(alloc),
             exits: Items::new(alloc),
-            places: Items::new(alloc),
+            places: Places::new(alloc),
             jumps: Items::new(alloc),
-            breaks: Items::new(alloc),
+            breaks: Breaks::new(alloc),
             faults: Items::new(alloc),
         }
     }

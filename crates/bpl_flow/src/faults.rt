@@ -2,24 +2,13 @@
 ghost use Rattle.std.specs.Prelude.{◌≡◌, ◌++◌, ◌||◌, not, nat_eq, OnOk, IfOk};
 ghost use Rattle.std.specs.List.{list_any};
 ghost use Rattle.std.specs.Option.{option_copied};
-ghost use Rattle.bpl_flow.specs.Flow.{place_of, is_enclosed, fault_of_jump, faults_of_jumps, listed, sooner, first_fault};
+ghost use Rattle.bpl_flow.specs.Flow.{is_enclosed, fault_of_jump, faults_of_jumps, listed, sooner, first_fault};
 
 use crate::fault::{FlowFault, FlowKind};
+use crate::places::Places;
 use crate::state::{Jump, Place, Walk};
 use sqlite_items::Items;
 use std::alloc::AllocError;
-
-/// The first place of a label.
-pub fn find_place<'a>(places: &'a [Place], name: &[u8]) -> Option<&'a Place>
-    ensures { option_copied result ≡ place_of name.now places.now }
-{
-    for place in places {
-        if place.name.as_slice() == name {
-            return Some(place);
-        }
-    }
-    None
-}
 
 /// Whether a statement is one of some.
 pub fn is_one_of(statement: u32, statements: &[u32]) -> bool
@@ -79,19 +68,19 @@ pub fn add_faults(walk: &Walk, faults: &mut Items<FlowFault>) -> Result<(), Allo
     for fault in walk.faults.as_slice() {
         faults.push(*fault)?;
     }
-    add_jump_faults(walk.places.as_slice(), walk.jumps.as_slice(), faults)
+    add_jump_faults(&walk.places, walk.jumps.as_slice(), faults)
 }
 
 /// Adds the faults of names in gotos.
 pub fn add_jump_faults(
-    places: &[Place],
+    places: &Places,
     jumps: &[Jump],
     faults: &mut Items<FlowFault>,
 ) -> Result<(), AllocError>
     ensures { OnOk result (faults.new ≡ faults.old ++ faults_of_jumps places.now jumps.now) }
 {
     for jump in jumps {
-        let place = find_place(places, jump.name.text.as_slice());
+        let place = places.find(jump.name.text.as_slice());
         if let Some(fault) = jump_fault(place, jump) {
             faults.push(fault)?;
         }

@@ -1,10 +1,11 @@
 //! Labels, gotos and breaks in a walk.
 ghost use Rattle.std.specs.Prelude.{◌≡◌, map, OnOk, IfOk};
-ghost use Rattle.bpl_flow.specs.Walk.{is_placed, loops_of, label, place_label, twice, goto, jump_of, has_label, leaves, left_by, break_to, in_block};
+ghost use Rattle.bpl_flow.specs.Walk.{loops_of, label, place_label, twice, goto, jump_of, has_label, leaves, left_by, break_to, in_block};
 ghost use Rattle.bpl_flow.specs.declared.state.Aim.TheVariants.{Label};
 
 use crate::current::going;
 use crate::fault::{FlowFault, FlowKind};
+use crate::places::Places;
 use crate::state::{Aim, Around, End, Jump, Place, Walk};
 use bpl_ast::Name;
 use sqlite_items::Items;
@@ -16,18 +17,6 @@ pub fn copy_name(alloc: Global, name: &Name) -> Result<Name, AllocError>
 {
     let text = Items::from_slice(alloc, name.text.as_slice())?;
     Ok(Name { at: name.at, text })
-}
-
-/// Whether the label of this name stood before.
-pub fn was_placed(places: &[Place], name: &[u8]) -> bool
-    ensures { result ≡ is_placed name.now places.now }
-{
-    for place in places {
-        if place.name.as_slice() == name {
-            return true;
-        }
-    }
-    false
 }
 
 /// The loops among statements, in order.
@@ -47,12 +36,12 @@ pub fn loops_among(alloc: Global, around: &[Around]) -> Result<Items<u32>, Alloc
 pub fn jump(
     alloc: Global,
     around: &[Around],
-    places: &[Place],
+    places: &Places,
     name: &Name,
 ) -> Result<Jump, AllocError>
     ensures { IfOk result (λ j. j ≡ jump_of around.now places.now name.now) }
 {
-    let is_behind = was_placed(places, name.text.as_slice());
+    let is_behind = places.contains(name.text.as_slice());
     let loops = loops_among(alloc, around)?;
     let name = copy_name(alloc, name)?;
     Ok(Jump {
@@ -66,7 +55,7 @@ pub fn jump(
 pub fn jumps_to(
     alloc: Global,
     around: &[Around],
-    places: &[Place],
+    places: &Places,
     names: &[Name],
 ) -> Result<Items<Jump>, AllocError>
     ensures { IfOk result (λ js. js ≡ map (jump_of around.now places.now) names.now) }
@@ -129,7 +118,7 @@ impl Walk {
         ensures { OnOk result (self.new ≡ record self.old { places = place_label around.now name.now self.old.made self.old.places; faults = twice name.now self.old.places self.old.faults }) }
     {
         let block = self.made;
-        if was_placed(self.places.as_slice(), name.text.as_slice()) {
+        if self.places.contains(name.text.as_slice()) {
             let at = name.at;
             let kind = FlowKind::LabelTwice;
             self.faults.push(FlowFault { at, kind })?;
@@ -137,8 +126,7 @@ impl Walk {
         }
         let loops = loops_among(alloc, around)?;
         let name = Items::from_slice(alloc, name.text.as_slice())?;
-        self.places.push(Place { name, block, loops })?;
-        Ok(())
+        self.places.add(alloc, Place { name, block, loops })
     }
 
     /// A label makes a block, to which the current one goes, and which becomes current.
@@ -161,7 +149,7 @@ impl Walk {
     ) -> Result<(), AllocError>
         ensures { OnOk result (self.new ≡ goto around.now names.now self.old) }
     {
-        let jumps = jumps_to(alloc, around, self.places.as_slice(), names)?;
+        let jumps = jumps_to(alloc, around, &self.places, names)?;
         let aims = aims_at(alloc, names)?;
         self.ensure_block(alloc)?;
         self.jumps.append(jumps)?;
@@ -184,7 +172,7 @@ impl Walk {
                 self.end_block(End::Returns)
             }
             Some(statement) => {
-                self.breaks.push(statement)?;
+                self.breaks.add(statement)?;
                 let end = going(alloc, Aim::Exit { statement })?;
                 self.end_block(end)
             }

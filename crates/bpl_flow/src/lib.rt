@@ -3,15 +3,22 @@
 
 mod blocks;
 mod branches;
+mod breaks;
 mod copies;
+mod counted;
 mod current;
+mod exits;
 mod fault;
 mod faults;
 mod guards;
 mod jumps;
 mod lowering;
+mod places;
 mod state;
 mod walker;
 
 pub use fault::{FlowFault, FlowKind};
-pub use lowering::{Parts, lowered_parts};
+pub use lowering::lower;
+
+#[cfg(test)]
+mod tests;

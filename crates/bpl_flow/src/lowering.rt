@@ -1,12 +1,14 @@
 //! Procedures, and the parts of a program.
 ghost use Rattle.std.specs.Prelude.{◌≡◌, [], ◌∷◌, ◌++◌, map, IsTrue, OnOk, IfOk};
 ghost use Rattle.bpl_flow.specs.Fits.{AllFit, ProcsFit};
-ghost use Rattle.bpl_flow.specs.Flow.{walked, faults_of, faults_of_procs, proc_of, procs_of, lowered};
+ghost use Rattle.bpl_flow.specs.Flow.{walked, faults_of, faults_of_procs, proc_of, procs_of, lowered, Gives};
 ghost use Rattle.bpl_flow.specs.Parted.{GivesParts};
 ghost use Rattle.bpl_type.specs.WellTyped.{named, is_typed};
 
 use crate::blocks::blocks_by_number;
 use crate::copies::args_of;
+use crate::counted::are_counted;
+use crate::exits::Exits;
 use crate::fault::FlowFault;
 use crate::faults::{add_faults, least};
 use crate::state::Walk;
@@ -15,7 +17,7 @@ use bpl_type::{Named as TypedName, Typed, TypedBody, TypedProc};
 use hy_text::Or;
 use hy_val::Expr;
 use sqlite_items::Items;
-use src_prog::{Named, SrcProc};
+use src_prog::{Named, Prog, SrcProc};
 use std::alloc::{AllocError, Global};
 
 /// The parts of a program.
@@ -77,7 +79,8 @@ pub fn numbered_proc(
         breaks: _,
         faults: _,
     } = walk;
-    let blocks = blocks_by_number(alloc, places.as_slice(), exits.as_slice(), ended, made)?;
+    let exits = Exits::of(alloc, exits)?;
+    let blocks = blocks_by_number(alloc, &places, &exits, ended, made)?;
     Ok(SrcProc {
         name: Items::from_slice(alloc, proc.name.as_slice())?,
         ins: names_of(alloc, proc.ins.as_slice())?,
@@ -147,4 +150,27 @@ pub fn lowered_parts(alloc: Global, typed: &Typed) -> Result<Parts, Or<FlowFault
         globals,
         procs,
     })
+}
+
+/// The program that a typed program becomes, or the first fault of flow in the text.
+///
+/// Procedures with a body are numbered in order; the blocks of each from 0, in the order in which the walk over its statements makes
+/// them; its asserts from 1, in the order in which the walk meets them. More than 2^32 - 1 constants, globals, procedures, or locals,
+/// blocks or asserts of one procedure are want of memory.
+pub fn lower(alloc: Global, typed: &Typed) -> Result<Prog, Or<FlowFault>>
+    requires { IsTrue (is_typed typed.now) }
+    ensures { Gives result (lowered typed.now) }
+{
+    let parts = lowered_parts(alloc, typed)?;
+    if !are_counted(&parts) {
+        return Err(Or::NoMemory);
+    }
+    let Parts {
+        consts,
+        uniques,
+        axioms,
+        globals,
+        procs,
+    } = parts;
+    Ok(Prog::new(consts, uniques, axioms, globals, procs))
 }

@@ -1,6 +1,8 @@
 //! What the walk over the statements of a body has made so far.
 
+use crate::breaks::Breaks;
 use crate::fault::FlowFault;
+use crate::places::Places;
 use bpl_ast::Name;
 use sqlite_items::Items;
 use src_prog::{Cmd, SrcLoop};
@@ -94,11 +96,11 @@ pub struct Walk {
     /// The statements that have been walked, each with the block of its exit.
     pub exits: Items<(u32, u32)>,
     /// The labels so far.
-    pub places: Items<Place>,
+    pub places: Places,
     /// The names in gotos so far.
     pub jumps: Items<Jump>,
     /// The statements that the breaks so far leave.
-    pub breaks: Items<u32>,
+    pub breaks: Breaks,
     /// The second labels and the breaks that leave nothing, so far.
     pub faults: Items<FlowFault>,
 }

@@ -140,7 +140,7 @@ impl Walk {
             head,
             loops,
         } = entered;
-        if is_left(guard, number, self.breaks.as_slice()) {
+        if is_left(guard, number, &self.breaks) {
             self.end_left(alloc, guard, number, head, loops)
         } else {
             self.end_plain(alloc, guard, number, head, loops)
