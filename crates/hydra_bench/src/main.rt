@@ -19,6 +19,8 @@ enum Work {
     Tokens(u64),
     /// Reads a program of so many MiB.
     Parse(u64),
+    /// Reads a program of so many MiB and shows it.
+    Show(u64),
     /// Evaluates an expression of so many thousand nodes.
     Values(u64),
     /// Solves random clauses of so many variables.
@@ -33,6 +35,7 @@ fn chosen(kind: &str, size: &str) -> Option<Work> {
     match kind {
         "tokens" => Some(Work::Tokens(size)),
         "parse" => Some(Work::Parse(size)),
+        "show" => Some(Work::Show(size)),
         "values" => Some(Work::Values(size)),
         "solve" => Some(Work::Solve(size)),
         "gates" => Some(Work::Gates(size)),
@@ -53,6 +56,10 @@ fn run(rt: &HostRuntime, alloc: Global, work: Work) -> io::Result<()> {
                 "parse: {} bytes, {} declarations",
                 counts.bytes, counts.declarations
             )
+        }
+        Work::Show(size) => {
+            let counts = reading::shown(alloc, size)?;
+            println!(rt; "show: {} bytes, {} shown", counts.bytes, counts.shown)
         }
         Work::Values(size) => {
             let counts = values::evaluate(alloc, size)?;
@@ -101,7 +108,7 @@ fn main(rt: HostRuntime) -> io::Result<()> {
     match work {
         Some(work) => run(&rt, alloc, work),
         None => println!(rt;
-            "usage: hydra_bench tokens MIB | parse MIB | values THOUSANDS | solve VARIABLES | gates WIDTH"
+            "usage: hydra_bench tokens MIB | parse MIB | show MIB | values THOUSANDS | solve VARIABLES | gates WIDTH"
         ),
     }
 }

@@ -1,6 +1,8 @@
 //! The reader on a long text.
 
+use bpl_ast::Ast;
 use bpl_parse::parse;
+use bpl_show::show;
 use bpl_tok::tokens;
 use std::alloc::{AllocError, Global};
 
@@ -20,6 +22,8 @@ pub struct Counts {
     pub tokens: usize,
     /// The declarations of its tree, where one was read.
     pub declarations: usize,
+    /// The bytes of its canonical text, where it was shown.
+    pub shown: usize,
 }
 
 /// Procedures of at least so many MiB together.
@@ -40,23 +44,53 @@ pub fn cut(alloc: Global, mib: u64) -> Result<Counts, AllocError> {
         bytes: text.len(),
         tokens: count,
         declarations: 0,
+        shown: 0,
+    })
+}
+
+/// What was read of a text.
+#[derive(Drop)]
+struct Read {
+    bytes: usize,
+    tokens: usize,
+    tree: Ast,
+}
+
+// Makes a text of at least so many MiB and reads its tree.
+fn tree(alloc: Global, mib: u64) -> Result<Read, AllocError> {
+    let text = text(alloc, mib)?;
+    let Ok(found) = tokens(alloc, text.as_slice()) else {
+        return Err(AllocError);
+    };
+    let Ok(tree) = parse(alloc, text.as_slice(), found.as_slice()) else {
+        return Err(AllocError);
+    };
+    Ok(Read {
+        bytes: text.len(),
+        tokens: found.len(),
+        tree,
     })
 }
 
 /// Makes a text of at least so many MiB and reads it as a program.
 pub fn read(alloc: Global, mib: u64) -> Result<Counts, AllocError> {
-    let text = text(alloc, mib)?;
-    let bytes = text.len();
-    let Ok(found) = tokens(alloc, text.as_slice()) else {
-        return Err(AllocError);
-    };
-    let declarations = parse(alloc, text.as_slice(), found.as_slice()).map_or(
-        0,
-        |ast| ast.decls.as_slice().len(),
-    );
+    let read = tree(alloc, mib)?;
     Ok(Counts {
-        bytes,
-        tokens: found.len(),
-        declarations,
+        bytes: read.bytes,
+        tokens: read.tokens,
+        declarations: read.tree.decls.as_slice().len(),
+        shown: 0,
+    })
+}
+
+/// Makes a text of at least so many MiB, reads it as a program and shows that.
+pub fn shown(alloc: Global, mib: u64) -> Result<Counts, AllocError> {
+    let read = tree(alloc, mib)?;
+    let text = show(alloc, &read.tree)?;
+    Ok(Counts {
+        bytes: read.bytes,
+        tokens: read.tokens,
+        declarations: read.tree.decls.as_slice().len(),
+        shown: text.as_slice().len(),
     })
 }
