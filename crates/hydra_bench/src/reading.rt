@@ -48,16 +48,16 @@ pub fn cut(alloc: Global, mib: u64) -> Result<Counts, AllocError> {
     })
 }
 
-/// What was read of a text.
+/// A text that was read.
 #[derive(Drop)]
-struct Read {
+struct Sample {
     bytes: usize,
     tokens: usize,
     tree: Ast,
 }
 
 // Makes a text of at least so many MiB and reads its tree.
-fn tree(alloc: Global, mib: u64) -> Result<Read, AllocError> {
+fn tree(alloc: Global, mib: u64) -> Result<Sample, AllocError> {
     let text = text(alloc, mib)?;
     let Ok(found) = tokens(alloc, text.as_slice()) else {
         return Err(AllocError);
@@ -65,7 +65,7 @@ fn tree(alloc: Global, mib: u64) -> Result<Read, AllocError> {
     let Ok(tree) = parse(alloc, text.as_slice(), found.as_slice()) else {
         return Err(AllocError);
     };
-    Ok(Read {
+    Ok(Sample {
         bytes: text.len(),
         tokens: found.len(),
         tree,
