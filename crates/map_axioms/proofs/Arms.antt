@@ -1,5 +1,5 @@
 -- What each node of a row becomes, as the code adds it.
-use Rattle.std.proofs.Common.{◌≡◌, ℕ, Bool, true, List, [], ◌∷◌, ◌++◌, length, sym, ◌∙◌, ap, subst}
+use Rattle.std.proofs.Common.{◌≡◌, ℕ, List, [], ◌∷◌, ◌++◌, length, sym, ◌∙◌, ap, subst}
 use Rattle.std.specs.Prelude.{None, Some, slice_get, slice_index, IsTrue, is_some}
 use Rattle.hy_val.specs.Sorts.{is_scalar, zero_of_scalar}
 use Rattle.hy_val.specs.Values.{binary_value, select_value}
@@ -18,7 +18,7 @@ use Rattle.hy_term.specs.declared.node.TermNode.{TermNode}
 use Rattle.hy_term.specs.declared.node.TermNode.TheVariants.{Lit, ZeroMap, Variable, Binary, If, Store}
 use Rattle.hy_term.proofs.Sorting.{and_right, and_both}
 use Rattle.map_axioms.specs.declared.entry.Entry.{Entry}
-use Rattle.map_axioms.specs.Steps.{entry_number, asked, State, Placed, IsAsked, is_marked, Entered, IsRow}
+use Rattle.map_axioms.specs.Steps.{entry_number, asked, State, Placed, IsAsked, row_at, MapsKnown, Read, IsRow}
 use Rattle.map_axioms.proofs.Standing.{some_is, Addable, addable_fits, placed, later_then}
 use Rattle.map_axioms.proofs.Rows.{row_asked, row_variable_sort, row_zero, row_if, row_same, row_store, row_entered, row_from_variable, no_scalar, entry_addable, entry_new}
 use Rattle.map_axioms.proofs.Homes.{home_agrees}
@@ -35,79 +35,79 @@ placed_named base nodes out es out' x s t f st h is n =
     subst (λ (k : ℕ). Placed base nodes out es out' es s k f) (sym n)
     (subst (λ (ns : List TermNode). Placed base nodes out es ns es s (length out) f) (sym is) (placed base nodes out es x s f st h))
 
-module _ (base : ℕ) (nodes out : List TermNode) (es : List Entry) (reds : List ℕ) (m i : ℕ) (marks : List Bool) (row : List ℕ)
-    (agree : IsTrue (agree_onto [] nodes)) (under : IsTrue (below base nodes)) (r : IsRow base nodes out es reds m i marks row) (marked : is_marked marks (length row) ≡ true) where
-  pub added_entered : (x : TermNode) (out' : List TermNode) (t : ℕ) → Addable base nodes out es x r.select.elem (λ a. select_value (value a nodes (length row)) (value a nodes i)) → out' ≡ out ++ x ∷ [] → t ≡ length out
-      → Entered base nodes out es out' es marks i (length row) t
+module _ (base : ℕ) (nodes out : List TermNode) (es : List Entry) (reds : List ℕ) (rows : List ((ℕ × ℕ) × ℕ)) (top i : ℕ)
+    (agree : IsTrue (agree_onto [] nodes)) (under : IsTrue (below base nodes)) (r : IsRow base nodes out es reds rows top i) (maps : (x : TermNode) → slice_get nodes top ≡ Some x → MapsKnown rows i x) where
+  pub added_entered : (x : TermNode) (out' : List TermNode) (t : ℕ) → Addable base nodes out es x r.select.elem (λ a. select_value (value a nodes top) (value a nodes i)) → out' ≡ out ++ x ∷ [] → t ≡ length out
+      → Read base nodes out es out' es top i t
   added_entered x out' t h is n =
-      row_entered base nodes out es reds m i marks row agree under r marked out' es t
-      (placed_named base nodes out es out' x r.select.elem t (λ a. select_value (value a nodes (length row)) (value a nodes i)) r.state h is n)
+      row_entered base nodes out es reds rows top i agree under r maps out' es t
+      (placed_named base nodes out es out' x r.select.elem t (λ a. select_value (value a nodes top) (value a nodes i)) r.state h is n)
 
-  pub arm_zero : (x y : Scalar) (v : Atom) (out' : List TermNode) (t : ℕ) → slice_get nodes (length row) ≡ Some (ZeroMap x y) → v ≡ zero_of_scalar y → out' ≡ out ++ Lit v ∷ [] → t ≡ length out
-      → Entered base nodes out es out' es marks i (length row) t
+  pub arm_zero : (x y : Scalar) (v : Atom) (out' : List TermNode) (t : ℕ) → slice_get nodes top ≡ Some (ZeroMap x y) → v ≡ zero_of_scalar y → out' ≡ out ++ Lit v ∷ [] → t ≡ length out
+      → Read base nodes out es out' es top i t
   arm_zero x y v out' t is same is_out n =
-      added_entered (Lit (zero_of_scalar y)) out' t (row_zero base nodes out es reds m i marks row agree under r marked x y is) (is_out ∙ ap (λ (w : Atom). out ++ Lit w ∷ []) same) n
+      added_entered (Lit (zero_of_scalar y)) out' t (row_zero base nodes out es reds rows top i agree under r maps x y is) (is_out ∙ ap (λ (w : Atom). out ++ Lit w ∷ []) same) n
 
-  pub arm_asked : (n x : ℕ) (sort : Sort) (index elem : Scalar) → slice_get nodes (length row) ≡ Some (Variable n sort) → sort ≡ MapSort index elem → x ≡ slice_index reds i → IsAsked base nodes out es n i x elem
+  pub arm_asked : (n x : ℕ) (sort : Sort) (index elem : Scalar) → slice_get nodes top ≡ Some (Variable n sort) → sort ≡ MapSort index elem → x ≡ slice_index reds i → IsAsked base nodes out es n i x elem
   arm_asked n x sort index elem is e same =
-      let q : MapSort index elem ≡ MapSort r.select.index r.select.elem = sym e ∙ (row_variable_sort base nodes out es reds m i marks row agree under r marked n sort is).0 in
+      let q : MapSort index elem ≡ MapSort r.select.index r.select.elem = sym e ∙ (row_variable_sort base nodes out es reds rows top i agree under r maps n sort is).0 in
       let same_elem : r.select.elem ≡ elem = cc in
       subst (λ (k : ℕ). IsAsked base nodes out es n i k elem) (sym same)
-      (subst (λ (s : Scalar). IsAsked base nodes out es n i (slice_index reds i) s) same_elem (row_asked base nodes out es reds m i marks row agree under r marked n sort is))
+      (subst (λ (s : Scalar). IsAsked base nodes out es n i (slice_index reds i) s) same_elem (row_asked base nodes out es reds rows top i agree under r maps n sort is))
 
-  pub arm_variable : (n : ℕ) (sort : Sort) (index elem : Scalar) (out' : List TermNode) (es' : List Entry) (t : ℕ) → slice_get nodes (length row) ≡ Some (Variable n sort) → sort ≡ MapSort index elem
-      → Placed base nodes out es out' es' elem t (λ a. select_value (a n) (value a nodes i)) → Entered base nodes out es out' es' marks i (length row) t
+  pub arm_variable : (n : ℕ) (sort : Sort) (index elem : Scalar) (out' : List TermNode) (es' : List Entry) (t : ℕ) → slice_get nodes top ≡ Some (Variable n sort) → sort ≡ MapSort index elem
+      → Placed base nodes out es out' es' elem t (λ a. select_value (a n) (value a nodes i)) → Read base nodes out es out' es' top i t
   arm_variable n sort index elem out' es' t is e p =
-      let q : MapSort index elem ≡ MapSort r.select.index r.select.elem = sym e ∙ (row_variable_sort base nodes out es reds m i marks row agree under r marked n sort is).0 in
+      let q : MapSort index elem ≡ MapSort r.select.index r.select.elem = sym e ∙ (row_variable_sort base nodes out es reds rows top i agree under r maps n sort is).0 in
       let same_elem : elem ≡ r.select.elem = cc in
-      row_from_variable base nodes out es reds m i marks row agree under r marked n sort out' es' t is
+      row_from_variable base nodes out es reds rows top i agree under r maps n sort out' es' t is
       (subst (λ (s : Scalar). Placed base nodes out es out' es' s t (λ a. select_value (a n) (value a nodes i))) same_elem p)
 
-  pub arm_no_scalar : (n : ℕ) (sort : Sort) (s : Scalar) → slice_get nodes (length row) ≡ Some (Variable n sort) → sort ≡ ScalarSort s → ⊥
-  arm_no_scalar n sort s is e = no_scalar ⊥ s r.select.index r.select.elem (sym e ∙ (row_variable_sort base nodes out es reds m i marks row agree under r marked n sort is).0)
+  pub arm_no_scalar : (n : ℕ) (sort : Sort) (s : Scalar) → slice_get nodes top ≡ Some (Variable n sort) → sort ≡ ScalarSort s → ⊥
+  arm_no_scalar n sort s is e = no_scalar ⊥ s r.select.index r.select.elem (sym e ∙ (row_variable_sort base nodes out es reds rows top i agree under r maps n sort is).0)
 
-  arm_if_addable : (c x y r1 r2 r3 : ℕ) → slice_get nodes (length row) ≡ Some (If c x y) → r1 ≡ slice_index reds c → r2 ≡ slice_index row x → r3 ≡ slice_index row y
-      → Addable base nodes out es (If r1 r2 r3) r.select.elem (λ a. select_value (value a nodes (length row)) (value a nodes i))
+  arm_if_addable : (c x y r1 r2 r3 : ℕ) → slice_get nodes top ≡ Some (If c x y) → r1 ≡ slice_index reds c → r2 ≡ row_at rows x i → r3 ≡ row_at rows y i
+      → Addable base nodes out es (If r1 r2 r3) r.select.elem (λ a. select_value (value a nodes top) (value a nodes i))
   arm_if_addable c x y r1 r2 r3 is p q o =
-      addable_named base nodes out es (If r1 r2 r3) (If (slice_index reds c) (slice_index row x) (slice_index row y)) r.select.elem (λ a. select_value (value a nodes (length row)) (value a nodes i)) (cc)
-      (row_if base nodes out es reds m i marks row agree under r marked c x y is)
+      addable_named base nodes out es (If r1 r2 r3) (If (slice_index reds c) (row_at rows x i) (row_at rows y i)) r.select.elem (λ a. select_value (value a nodes top) (value a nodes i)) (cc)
+      (row_if base nodes out es reds rows top i agree under r maps c x y is)
 
-  pub arm_if_fits : (c x y r1 r2 r3 : ℕ) → slice_get nodes (length row) ≡ Some (If c x y) → r1 ≡ slice_index reds c → r2 ≡ slice_index row x → r3 ≡ slice_index row y → IsTrue (fits_behind out (If r1 r2 r3))
+  pub arm_if_fits : (c x y r1 r2 r3 : ℕ) → slice_get nodes top ≡ Some (If c x y) → r1 ≡ slice_index reds c → r2 ≡ row_at rows x i → r3 ≡ row_at rows y i → IsTrue (fits_behind out (If r1 r2 r3))
   arm_if_fits c x y r1 r2 r3 is p q o =
-      addable_fits base nodes out es (If r1 r2 r3) r.select.elem (λ a. select_value (value a nodes (length row)) (value a nodes i)) (arm_if_addable c x y r1 r2 r3 is p q o)
+      addable_fits base nodes out es (If r1 r2 r3) r.select.elem (λ a. select_value (value a nodes top) (value a nodes i)) (arm_if_addable c x y r1 r2 r3 is p q o)
 
-  pub arm_if : (c x y r1 r2 r3 : ℕ) (out' : List TermNode) (t : ℕ) → slice_get nodes (length row) ≡ Some (If c x y) → r1 ≡ slice_index reds c → r2 ≡ slice_index row x → r3 ≡ slice_index row y
-      → out' ≡ out ++ If r1 r2 r3 ∷ [] → t ≡ length out → Entered base nodes out es out' es marks i (length row) t
+  pub arm_if : (c x y r1 r2 r3 : ℕ) (out' : List TermNode) (t : ℕ) → slice_get nodes top ≡ Some (If c x y) → r1 ≡ slice_index reds c → r2 ≡ row_at rows x i → r3 ≡ row_at rows y i
+      → out' ≡ out ++ If r1 r2 r3 ∷ [] → t ≡ length out → Read base nodes out es out' es top i t
   arm_if c x y r1 r2 r3 out' t is p q o is_out n = added_entered (If r1 r2 r3) out' t (arm_if_addable c x y r1 r2 r3 is p q o) is_out n
 
-  arm_same : (x j v r1 r2 : ℕ) → slice_get nodes (length row) ≡ Some (Store x j v) → r1 ≡ slice_index reds j → r2 ≡ slice_index reds i
+  arm_same : (x j v r1 r2 : ℕ) → slice_get nodes top ≡ Some (Store x j v) → r1 ≡ slice_index reds j → r2 ≡ slice_index reds i
       → Addable base nodes out es (Binary Eq r1 r2) BoolSort (λ a. binary_value Eq (value a nodes j) (value a nodes i))
   arm_same x j v r1 r2 is p q =
       addable_named base nodes out es (Binary Eq r1 r2) (Binary Eq (slice_index reds j) (slice_index reds i)) BoolSort (λ a. binary_value Eq (value a nodes j) (value a nodes i)) (cc)
-      (row_same base nodes out es reds m i marks row agree under r marked x j v is)
+      (row_same base nodes out es reds rows top i agree under r maps x j v is)
 
-  pub arm_same_fits : (x j v r1 r2 : ℕ) → slice_get nodes (length row) ≡ Some (Store x j v) → r1 ≡ slice_index reds j → r2 ≡ slice_index reds i → IsTrue (fits_behind out (Binary Eq r1 r2))
+  pub arm_same_fits : (x j v r1 r2 : ℕ) → slice_get nodes top ≡ Some (Store x j v) → r1 ≡ slice_index reds j → r2 ≡ slice_index reds i → IsTrue (fits_behind out (Binary Eq r1 r2))
   arm_same_fits x j v r1 r2 is p q = addable_fits base nodes out es (Binary Eq r1 r2) BoolSort (λ a. binary_value Eq (value a nodes j) (value a nodes i)) (arm_same x j v r1 r2 is p q)
 
-  module _ (x j v r1 r2 : ℕ) (is : slice_get nodes (length row) ≡ Some (Store x j v)) (p : r1 ≡ slice_index reds j) (q : r2 ≡ slice_index reds i) (out1 : List TermNode) (t1 : ℕ)
+  module _ (x j v r1 r2 : ℕ) (is : slice_get nodes top ≡ Some (Store x j v)) (p : r1 ≡ slice_index reds j) (q : r2 ≡ slice_index reds i) (out1 : List TermNode) (t1 : ℕ)
       (is_out : out1 ≡ out ++ Binary Eq r1 r2 ∷ []) (is_t : t1 ≡ length out) where
     arm_first : Placed base nodes out es out1 es BoolSort t1 (λ a. binary_value Eq (value a nodes j) (value a nodes i))
     arm_first = placed_named base nodes out es out1 (Binary Eq r1 r2) BoolSort t1 (λ a. binary_value Eq (value a nodes j) (value a nodes i)) r.state (arm_same x j v r1 r2 is p q) is_out is_t
 
-    arm_store_addable : (r3 r4 : ℕ) → r3 ≡ slice_index reds v → r4 ≡ slice_index row x → Addable base nodes out1 es (If t1 r3 r4) r.select.elem (λ a. select_value (value a nodes (length row)) (value a nodes i))
+    arm_store_addable : (r3 r4 : ℕ) → r3 ≡ slice_index reds v → r4 ≡ row_at rows x i → Addable base nodes out1 es (If t1 r3 r4) r.select.elem (λ a. select_value (value a nodes top) (value a nodes i))
     arm_store_addable r3 r4 o k =
-        addable_named base nodes out1 es (If t1 r3 r4) (If t1 (slice_index reds v) (slice_index row x)) r.select.elem (λ a. select_value (value a nodes (length row)) (value a nodes i)) (cc)
-        (row_store base nodes out es reds m i marks row agree under r marked x j v t1 out1 is arm_first)
+        addable_named base nodes out1 es (If t1 r3 r4) (If t1 (slice_index reds v) (row_at rows x i)) r.select.elem (λ a. select_value (value a nodes top) (value a nodes i)) (cc)
+        (row_store base nodes out es reds rows top i agree under r maps x j v t1 out1 is arm_first)
 
-    pub arm_store_fits : (r3 r4 : ℕ) → r3 ≡ slice_index reds v → r4 ≡ slice_index row x → IsTrue (fits_behind out1 (If t1 r3 r4))
-    arm_store_fits r3 r4 o k = addable_fits base nodes out1 es (If t1 r3 r4) r.select.elem (λ a. select_value (value a nodes (length row)) (value a nodes i)) (arm_store_addable r3 r4 o k)
+    pub arm_store_fits : (r3 r4 : ℕ) → r3 ≡ slice_index reds v → r4 ≡ row_at rows x i → IsTrue (fits_behind out1 (If t1 r3 r4))
+    arm_store_fits r3 r4 o k = addable_fits base nodes out1 es (If t1 r3 r4) r.select.elem (λ a. select_value (value a nodes top) (value a nodes i)) (arm_store_addable r3 r4 o k)
 
-    pub arm_store : (r3 r4 : ℕ) (out2 : List TermNode) (t2 : ℕ) → r3 ≡ slice_index reds v → r4 ≡ slice_index row x → out2 ≡ out1 ++ If t1 r3 r4 ∷ [] → t2 ≡ length out1
-        → Entered base nodes out es out2 es marks i (length row) t2
+    pub arm_store : (r3 r4 : ℕ) (out2 : List TermNode) (t2 : ℕ) → r3 ≡ slice_index reds v → r4 ≡ row_at rows x i → out2 ≡ out1 ++ If t1 r3 r4 ∷ [] → t2 ≡ length out1
+        → Read base nodes out es out2 es top i t2
     arm_store r3 r4 out2 t2 o k is_out2 is_t2 =
         let first = arm_first in
-        let last = placed_named base nodes out1 es out2 (If t1 r3 r4) r.select.elem t2 (λ a. select_value (value a nodes (length row)) (value a nodes i)) first.state (arm_store_addable r3 r4 o k) is_out2 is_t2 in
-        row_entered base nodes out es reds m i marks row agree under r marked out2 es t2 (record {
+        let last = placed_named base nodes out1 es out2 (If t1 r3 r4) r.select.elem t2 (λ a. select_value (value a nodes top) (value a nodes i)) first.state (arm_store_addable r3 r4 o k) is_out2 is_t2 in
+        row_entered base nodes out es reds rows top i agree under r maps out2 es t2 (record {
           state = last.state;
           later = later_then out es out1 es out2 es first.later last.later;
           stands = last.stands;

@@ -1,5 +1,5 @@
 -- Congruence, pair by pair.
-use Rattle.std.proofs.Common.{◌≡◌, ℕ, zero, suc, ◌+◌, ◌≤◌, Bool, true, false, ◌&&◌, List, [], ◌∷◌, ◌++◌, length, take, drop, length-drop, ◌-◌, arith, sym, ◌∙◌, ap, refl, subst}
+use Rattle.std.proofs.Common.{◌≡◌, ℕ, zero, suc, ◌+◌, ◌≤◌, Bool, true, false, ◌&&◌, List, [], ◌∷◌, ◌++◌, length, drop, arith, sym, ◌∙◌, ap, refl, subst}
 use Rattle.std.specs.Prelude.{Some, if◌then◌else◌, slice_get, IsTrue, is_some, nat_eq}
 use Rattle.hy_val.specs.Operators.{apply, sort_of_binary}
 use Rattle.hy_val.specs.Values.{at, atom_of, is_on, is_true_atom, binary_value}
@@ -253,6 +253,16 @@ so_far_last base nodes out es out' all t whole rest s end = record {
   is = λ b. sym (and_true (is_on (value b out' t))) ∙ ap (λ (x : Bool). is_on (value b out' t) && x) (sym (end (values b out))) ∙ s.is b;
 }
 
+-- what is left may be written otherwise
+pub so_far_as : (base : ℕ) (nodes out : List TermNode) (es : List Entry) (out' : List TermNode) (all t : ℕ) (whole rest next : List Value → Bool) → ((vs : List Value) → rest vs ≡ next vs) → SoFar base nodes out es out' all t whole rest
+    → SoFar base nodes out es out' all t whole next
+so_far_as base nodes out es out' all t whole rest next same s = record {
+  state = s.state;
+  later = s.later;
+  bool = s.bool;
+  is = λ b. ap (λ (x : Bool). is_on (value b out' t) && x) (sym (same (values b out))) ∙ s.is b;
+}
+
 drop_past : {A : Type 0} (xs : List A) (n : ℕ) → length xs ≤ n → drop n xs ≡ []
 drop_past [] zero h = refl
 drop_past [] (suc n) h = refl
@@ -264,16 +274,6 @@ pairs_past vs p qs n h = ap (pairs_on vs p) (drop_past qs n h)
 
 pub congruent_past : (vs : List Value) (ps : List Entry) (n : ℕ) → length ps ≤ n → congruent vs (drop n ps) ≡ true
 congruent_past vs ps n h = ap (congruent vs) (drop_past ps n h)
-
-take_whole : {A : Type 0} (xs : List A) (n : ℕ) → length xs ≤ n → take n xs ≡ xs
-take_whole [] zero h = refl
-take_whole [] (suc n) h = refl
-take_whole (x ∷ xs) zero h = absurd (omega (arith, h))
-take_whole (x ∷ xs) (suc n) h = ap (λ ys. x ∷ ys) (take_whole xs n (omega (arith, h)))
-
--- a slice from a place on
-pub take_rest : {A : Type 0} (xs : List A) (n : ℕ) → take (length xs - n) (drop n xs) ≡ drop n xs
-take_rest xs n = take_whole (drop n xs) (length xs - n) (omega (arith, length-drop n xs))
 
 pub all_later : (base : ℕ) (nodes out : List TermNode) (es : List Entry) (out' : List TermNode) (others : List Entry) → Later out es out' es → AllKept base nodes out es others → AllKept base nodes out' es others
 all_later base nodes out es out' others l h j e is = entry_later out es out' es l base nodes e (h j e is)

@@ -7,7 +7,9 @@ pub mod Rows
 pub mod Conjoining
 pub mod Looking
 pub mod Arms
-pub mod Cones
+pub mod Walking
+pub mod Linking
+pub mod Indexing
 pub mod Pairs
 pub mod Theorem
 pub mod Counting

@@ -1,6 +1,7 @@
 -- The entries of map nodes at an index, one after the other.
-use Rattle.std.proofs.Common.{◌≡◌, ℕ, zero, suc, ◌<◌, ◌≤◌, Bool, true, false, ◌&&◌, List, [], ◌∷◌, ◌++◌, length, arith, sym, ◌∙◌, ap, refl, subst}
+use Rattle.std.proofs.Common.{◌≡◌, ℕ, zero, suc, ◌<◌, Bool, true, false, ◌&&◌, List, [], ◌∷◌, ◌++◌, length, arith, sym, ◌∙◌, ap, refl, subst}
 use Rattle.std.specs.Prelude.{Option, None, Some, if◌then◌else◌, slice_get, slice_index, IsTrue, IsSome, nat_eq}
+use Rattle.std.specs.Option.{unwrap_or}
 use Rattle.std.proofs.lemmas.Bool.Decides.{nat_tests}
 use Rattle.std.proofs.lemmas.Option.{slice_get_within}
 use Rattle.hy_val.specs.Sorts.{scalar_of, has_scalar, is_scalar, zero_of_scalar}
@@ -27,7 +28,7 @@ use Rattle.hy_term.specs.declared.node.TermNode.TheVariants.{Lit, ZeroMap, Varia
 use Rattle.hy_term.proofs.Growing.{node_values, value-new}
 use Rattle.hy_term.proofs.Sorting.{and_left, and_right}
 use Rattle.map_axioms.specs.declared.entry.Entry.{Entry}
-use Rattle.map_axioms.specs.Steps.{entry_number, home, Stands, EntryKept, Later, State, IsReduced, AllReduced, renamed, Placed, Taken, IsAsked, asked, Apart, is_marked, EntryStands, RowStands, Entered, IsRow}
+use Rattle.map_axioms.specs.Steps.{entry_number, home, Stands, EntryKept, Later, State, IsReduced, AllReduced, renamed, Placed, Taken, IsAsked, asked, found, Apart, EntryStands, row_at, MapsKnown, RowsStand, Read, IsRow}
 use Rattle.map_axioms.proofs.Cases.{case_at, unary_case, binary_case, if_case, select_case, store_case, sort_added}
 use Rattle.map_axioms.proofs.Homes.{number_at, number_new, below_at, home_number, home_source, home_entry, number_is, same_number}
 use Rattle.map_axioms.proofs.Standing.{stands_later, entry_later, later_same, later_push, state_push, Addable, placed, addable_binary, addable_if, stands_as, reduced_later}
@@ -115,9 +116,9 @@ found_by m i t e es false test h ih =
     let f = ih h in
     record { place = suc f.place; entry = f.entry; there = f.there; map = f.map; at = f.at; is = f.is }
 
-found : (m i t : ℕ) (es : List Entry) → asked m i es ≡ Some t → Found m i t es
-found m i t [] h = cc
-found m i t (e ∷ es) h = found_by m i t e es (nat_eq e.map m && nat_eq e.place i) refl h (found m i t es)
+found_entry : (m i t : ℕ) (es : List Entry) → asked m i es ≡ Some t → Found m i t es
+found_entry m i t [] h = cc
+found_entry m i t (e ∷ es) h = found_by m i t e es (nat_eq e.map m && nat_eq e.place i) refl h (found_entry m i t es)
 
 -- a kept entry's node stands for the entry
 pub entry_stands : (base : ℕ) (nodes out : List TermNode) (es : List Entry) (j : ℕ) (e : Entry) → slice_get es j ≡ Some e → (k : EntryKept base nodes out es e)
@@ -130,7 +131,7 @@ entry_stands base nodes out es j e is k = record {
 pub entry_found : (base : ℕ) (nodes out : List TermNode) (es : List Entry) (m i index t : ℕ) (elem : Scalar) → State base nodes out es → IsAsked base nodes out es m i index elem → asked m i es ≡ Some t
     → Placed base nodes out es out es elem t (λ a. select_value (a m) (value a nodes i))
 entry_found base nodes out es m i index t elem st ask h =
-    let f = found m i t es h in
+    let f = found_entry m i t es h in
     let e = f.entry in
     let k = st.entry f.place f.entry f.there in
     let sort : Some (MapSort k.index k.elem) ≡ Some (MapSort ask.sort elem) = sym k.map ∙ ap (λ (n : ℕ). sort_of_number n nodes) f.map ∙ ask.map in
@@ -235,57 +236,64 @@ pub eq_fits : (s : Scalar) → sort_of_binary Eq s s ≡ Some BoolSort
 eq_fits BoolSort = refl
 eq_fits (BvSort w) = ap (λ (b : Bool). if b then Some BoolSort else None) (same_number w)
 
-module _ (base : ℕ) (nodes out : List TermNode) (es : List Entry) (reds : List ℕ) (m i : ℕ) (marks : List Bool) (row : List ℕ)
-    (agree : IsTrue (agree_onto [] nodes)) (under : IsTrue (below base nodes)) (r : IsRow base nodes out es reds m i marks row) (marked : is_marked marks (length row) ≡ true) where
+pub known_row : (rows : List ((ℕ × ℕ) × ℕ)) (j i : ℕ) → IsSome (found j i rows) → found j i rows ≡ Some (row_at rows j i)
+known_row rows j i h = known_by (found j i rows) h
+  where
+    known_by : (o : Option ℕ) → IsSome o → o ≡ Some (unwrap_or o 0)
+    known_by None k = cc
+    known_by (Some x) k = refl
+
+module _ (base : ℕ) (nodes out : List TermNode) (es : List Entry) (reds : List ℕ) (rows : List ((ℕ × ℕ) × ℕ)) (top i : ℕ)
+    (agree : IsTrue (agree_onto [] nodes)) (under : IsTrue (below base nodes)) (r : IsRow base nodes out es reds rows top i) (maps : (x : TermNode) → slice_get nodes top ≡ Some x → MapsKnown rows i x) where
   index : Scalar
   index = r.select.index
 
   ground : Ground base nodes out es reds
   ground = record { agree = agree; under = under; state = r.state; each = r.reduced }
 
-  pub row_sort : sort_at nodes (length row) ≡ Some (MapSort r.select.index r.select.elem)
-  row_sort = r.cone.sort (length row) marked ∙ r.select.map
+  pub row_sort : sort_at nodes top ≡ Some (MapSort r.select.index r.select.elem)
+  row_sort = r.select.map
 
   row_sound : IsSome (sorts nodes)
-  row_sound = sound_at nodes (length row) (MapSort r.select.index r.select.elem) row_sort
+  row_sound = sound_at nodes top (MapSort r.select.index r.select.elem) row_sort
 
   meant : (ℕ → Value) → Value
-  meant a = select_value (value a nodes (length row)) (value a nodes i)
+  meant a = select_value (value a nodes top) (value a nodes i)
 
-  lower_red : (j : ℕ) (s : Scalar) → j < length row → sort_at nodes j ≡ Some (ScalarSort s) → Stands nodes out es s (slice_index reds j) (λ a. value a nodes j)
-  lower_red j s l h = child base nodes out es reds ground j s (let a = r.within in let b = r.map_before in omega (arith, l, a, b)) h
+  lower_red : (j : ℕ) (s : Scalar) → j < top → sort_at nodes j ≡ Some (ScalarSort s) → Stands nodes out es s (slice_index reds j) (λ a. value a nodes j)
+  lower_red j s l h = child base nodes out es reds ground j s (let b = r.map_before in omega (arith, l, b)) h
 
-  lower_row : (j : ℕ) → j < length row → is_marked marks j ≡ true → sort_at nodes j ≡ Some (MapSort r.select.index r.select.elem)
-      → Stands nodes out es r.select.elem (slice_index row j) (λ a. select_value (value a nodes j) (value a nodes i))
-  lower_row j l k h = r.stands j l k r.select.index r.select.elem h
+  lower_row : (j : ℕ) → IsSome (found j i rows) → sort_at nodes j ≡ Some (MapSort r.select.index r.select.elem)
+      → Stands nodes out es r.select.elem (row_at rows j i) (λ a. select_value (value a nodes j) (value a nodes i))
+  lower_row j k h = r.stands j i (row_at rows j i) (known_row rows j i k) r.select.index r.select.elem h
 
   place_red : Stands nodes out es r.select.index (slice_index reds i) (λ a. value a nodes i)
   place_red = child base nodes out es reds ground i r.select.index r.place_before r.select.place
 
-  pub row_asked : (n : ℕ) (sort : Sort) → slice_get nodes (length row) ≡ Some (Variable n sort) → IsAsked base nodes out es n i (slice_index reds i) r.select.elem
+  pub row_asked : (n : ℕ) (sort : Sort) → slice_get nodes top ≡ Some (Variable n sort) → IsAsked base nodes out es n i (slice_index reds i) r.select.elem
   row_asked n sort is =
-      let c = case_at nodes (length row) (Variable n sort) (MapSort r.select.index r.select.elem) row_sort is in
+      let c = case_at nodes top (Variable n sort) (MapSort r.select.index r.select.elem) row_sort is in
       let x = if_is (is_sort sort) sort (MapSort r.select.index r.select.elem) c.is in
       record {
         sort = r.select.index;
-        under = below_at base nodes (length row) n sort under is;
-        map = number_at nodes (length row) n sort agree is ∙ ap Some x.0;
+        under = below_at base nodes top n sort under is;
+        map = number_at nodes top n sort agree is ∙ ap Some x.0;
         at = r.select.place;
         stands = place_red;
       }
 
-  pub row_variable : (n : ℕ) (sort : Sort) → slice_get nodes (length row) ≡ Some (Variable n sort) → (a : ℕ → Value) → value a nodes (length row) ≡ a n
-  row_variable n sort is a = node_values a nodes (length row) (Variable n sort) row_sound is
+  pub row_variable : (n : ℕ) (sort : Sort) → slice_get nodes top ≡ Some (Variable n sort) → (a : ℕ → Value) → value a nodes top ≡ a n
+  row_variable n sort is a = node_values a nodes top (Variable n sort) row_sound is
 
-  pub row_variable_sort : (n : ℕ) (sort : Sort) → slice_get nodes (length row) ≡ Some (Variable n sort) → (sort ≡ MapSort r.select.index r.select.elem) × IsTrue (is_scalar r.select.elem)
+  pub row_variable_sort : (n : ℕ) (sort : Sort) → slice_get nodes top ≡ Some (Variable n sort) → (sort ≡ MapSort r.select.index r.select.elem) × IsTrue (is_scalar r.select.elem)
   row_variable_sort n sort is =
-      let c = case_at nodes (length row) (Variable n sort) (MapSort r.select.index r.select.elem) row_sort is in
+      let c = case_at nodes top (Variable n sort) (MapSort r.select.index r.select.elem) row_sort is in
       let x = if_is (is_sort sort) sort (MapSort r.select.index r.select.elem) c.is in
       (x.0, and_right (is_scalar r.select.index) (is_scalar r.select.elem) (ap is_sort (sym x.0) ∙ x.1))
 
-  pub row_zero : (x y : Scalar) → slice_get nodes (length row) ≡ Some (ZeroMap x y) → Addable base nodes out es (Lit (zero_of_scalar y)) r.select.elem (λ a. select_value (value a nodes (length row)) (value a nodes i))
+  pub row_zero : (x y : Scalar) → slice_get nodes top ≡ Some (ZeroMap x y) → Addable base nodes out es (Lit (zero_of_scalar y)) r.select.elem (λ a. select_value (value a nodes top) (value a nodes i))
   row_zero x y is =
-      let c = case_at nodes (length row) (ZeroMap x y) (MapSort r.select.index r.select.elem) row_sort is in
+      let c = case_at nodes top (ZeroMap x y) (MapSort r.select.index r.select.elem) row_sort is in
       let e = if_is (is_sort (MapSort x y)) (MapSort x y) (MapSort r.select.index r.select.elem) c.is in
       let sorts_same = e.0 in
       let same : y ≡ r.select.elem = cc in
@@ -297,31 +305,31 @@ module _ (base : ℕ) (nodes out : List TermNode) (es : List Entry) (reds : List
             ∙ if_this (has_scalar (zero_of_scalar y) y) (ScalarSort y) own ∙ ap (λ (s : Scalar). Some (ScalarSort s)) same);
         agrees = refl;
         at_home = tt;
-        means = λ a b ok link. sym (ap (λ (v : Value). select_value v (value a nodes i)) (node_values a nodes (length row) (ZeroMap x y) row_sound is));
+        means = λ a b ok link. sym (ap (λ (v : Value). select_value v (value a nodes i)) (node_values a nodes top (ZeroMap x y) row_sound is));
       }
 
-  pub row_if : (t x y : ℕ) → slice_get nodes (length row) ≡ Some (If t x y)
-      → Addable base nodes out es (If (slice_index reds t) (slice_index row x) (slice_index row y)) r.select.elem (λ a. select_value (value a nodes (length row)) (value a nodes i))
+  pub row_if : (t x y : ℕ) → slice_get nodes top ≡ Some (If t x y)
+      → Addable base nodes out es (If (slice_index reds t) (row_at rows x i) (row_at rows y i)) r.select.elem (λ a. select_value (value a nodes top) (value a nodes i))
   row_if t x y is =
-      let c = case_at nodes (length row) (If t x y) (MapSort r.select.index r.select.elem) row_sort is in
+      let c = case_at nodes top (If t x y) (MapSort r.select.index r.select.elem) row_sort is in
       let u = if_case (slice_get c.known t) (slice_get c.known x) (slice_get c.known y) (MapSort r.select.index r.select.elem) c.is in
       let p = c.lower t (ScalarSort BoolSort) u.test in
       let q = c.lower x (MapSort r.select.index r.select.elem) u.one in
       let o = c.lower y (MapSort r.select.index r.select.elem) u.other in
-      let k = r.cone.closed (length row) (If t x y) (let z : 0 ≤ length row = omega arith in z) marked is in
-      addable_as base nodes out es (If (slice_index reds t) (slice_index row x) (slice_index row y)) r.select.elem
+      let k = maps (If t x y) is in
+      addable_as base nodes out es (If (slice_index reds t) (row_at rows x i) (row_at rows y i)) r.select.elem
       (λ a. pick (value a nodes t) (select_value (value a nodes x) (value a nodes i)) (select_value (value a nodes y) (value a nodes i)))
-      (λ a. select_value (value a nodes (length row)) (value a nodes i))
-      (λ a ok. sym (ap (λ (v : Value). select_value v (value a nodes i)) (node_values a nodes (length row) (If t x y) row_sound is)
+      (λ a. select_value (value a nodes top) (value a nodes i))
+      (λ a ok. sym (ap (λ (v : Value). select_value v (value a nodes i)) (node_values a nodes top (If t x y) row_sound is)
       ∙ select_of_pick (value a nodes t) (value a nodes x) (value a nodes y) (value a nodes i)))
-      (addable_if base nodes out es (slice_index reds t) (slice_index row x) (slice_index row y) r.select.elem (λ a. value a nodes t)
+      (addable_if base nodes out es (slice_index reds t) (row_at rows x i) (row_at rows y i) r.select.elem (λ a. value a nodes t)
       (λ a. select_value (value a nodes x) (value a nodes i)) (λ a. select_value (value a nodes y) (value a nodes i))
-      (lower_red t BoolSort p.0 p.1) (lower_row x q.0 k.0 q.1) (lower_row y o.0 k.1 o.1))
+      (lower_red t BoolSort p.0 p.1) (lower_row x k.0 q.1) (lower_row y k.1 o.1))
 
-  pub row_same : (x j v : ℕ) → slice_get nodes (length row) ≡ Some (Store x j v)
+  pub row_same : (x j v : ℕ) → slice_get nodes top ≡ Some (Store x j v)
       → Addable base nodes out es (Binary Eq (slice_index reds j) (slice_index reds i)) BoolSort (λ a. binary_value Eq (value a nodes j) (value a nodes i))
   row_same x j v is =
-      let c = case_at nodes (length row) (Store x j v) (MapSort r.select.index r.select.elem) row_sort is in
+      let c = case_at nodes top (Store x j v) (MapSort r.select.index r.select.elem) row_sort is in
       let u = store_case (slice_get c.known x) (slice_get c.known j) (slice_get c.known v) (MapSort r.select.index r.select.elem) c.is in
       let p = c.lower j (ScalarSort u.index) u.place in
       let sorts_same = u.is in
@@ -330,11 +338,11 @@ module _ (base : ℕ) (nodes out : List TermNode) (es : List Entry) (reds : List
       (lower_red j r.select.index p.0 (p.1 ∙ ap (λ (s : Scalar). Some (ScalarSort s)) same)) place_red (eq_fits r.select.index)
 
   -- with the comparison behind the others
-  pub row_store : (x j v t : ℕ) (out' : List TermNode) → slice_get nodes (length row) ≡ Some (Store x j v)
+  pub row_store : (x j v t : ℕ) (out' : List TermNode) → slice_get nodes top ≡ Some (Store x j v)
       → Placed base nodes out es out' es BoolSort t (λ a. binary_value Eq (value a nodes j) (value a nodes i))
-      → Addable base nodes out' es (If t (slice_index reds v) (slice_index row x)) r.select.elem (λ a. select_value (value a nodes (length row)) (value a nodes i))
+      → Addable base nodes out' es (If t (slice_index reds v) (row_at rows x i)) r.select.elem (λ a. select_value (value a nodes top) (value a nodes i))
   row_store x j v t out' is p =
-      let c = case_at nodes (length row) (Store x j v) (MapSort r.select.index r.select.elem) row_sort is in
+      let c = case_at nodes top (Store x j v) (MapSort r.select.index r.select.elem) row_sort is in
       let u = store_case (slice_get c.known x) (slice_get c.known j) (slice_get c.known v) (MapSort r.select.index r.select.elem) c.is in
       let sorts_same = u.is in
       let same_index : u.index ≡ r.select.index = cc in
@@ -345,68 +353,68 @@ module _ (base : ℕ) (nodes out : List TermNode) (es : List Entry) (reds : List
       let map_sort : sort_at nodes x ≡ Some (MapSort r.select.index r.select.elem) = low_map.1 ∙ ap Some (sym u.is) in
       let place_sort : sort_at nodes j ≡ Some (ScalarSort r.select.index) = low_place.1 ∙ ap (λ (s : Scalar). Some (ScalarSort s)) same_index in
       let entry_sort : sort_at nodes v ≡ Some (ScalarSort r.select.elem) = low_entry.1 ∙ ap (λ (s : Scalar). Some (ScalarSort s)) same_elem in
-      let k = r.cone.closed (length row) (Store x j v) (let z : 0 ≤ length row = omega arith in z) marked is in
-      addable_as base nodes out' es (If t (slice_index reds v) (slice_index row x)) r.select.elem
+      let k = maps (Store x j v) is in
+      addable_as base nodes out' es (If t (slice_index reds v) (row_at rows x i)) r.select.elem
       (λ a. pick (binary_value Eq (value a nodes j) (value a nodes i)) (value a nodes v) (select_value (value a nodes x) (value a nodes i)))
-      (λ a. select_value (value a nodes (length row)) (value a nodes i))
-      (λ a ok. sym (ap (λ (w : Value). select_value w (value a nodes i)) (node_values a nodes (length row) (Store x j v) row_sound is)
+      (λ a. select_value (value a nodes top) (value a nodes i))
+      (λ a ok. sym (ap (λ (w : Value). select_value w (value a nodes i)) (node_values a nodes top (Store x j v) row_sound is)
       ∙ select_of_store (value a nodes x) (value a nodes j) (value a nodes v) (value a nodes i) r.select.index r.select.elem
       (has_its_sort a nodes x (MapSort r.select.index r.select.elem) ok map_sort)
       (has_its_sort a nodes j (ScalarSort r.select.index) ok place_sort)
       (has_its_sort a nodes v (ScalarSort r.select.elem) ok entry_sort)
       (has_its_sort a nodes i (ScalarSort r.select.index) ok r.select.place)))
-      (addable_if base nodes out' es t (slice_index reds v) (slice_index row x) r.select.elem
+      (addable_if base nodes out' es t (slice_index reds v) (row_at rows x i) r.select.elem
       (λ a. binary_value Eq (value a nodes j) (value a nodes i)) (λ a. value a nodes v) (λ a. select_value (value a nodes x) (value a nodes i))
       p.stands
       (stands_later out es out' es p.later nodes r.select.elem (slice_index reds v) (λ a. value a nodes v) (lower_red v r.select.elem low_entry.0 entry_sort))
-      (stands_later out es out' es p.later nodes r.select.elem (slice_index row x) (λ a. select_value (value a nodes x) (value a nodes i)) (lower_row x low_map.0 k map_sort)))
+      (stands_later out es out' es p.later nodes r.select.elem (row_at rows x i) (λ a. select_value (value a nodes x) (value a nodes i)) (lower_row x k map_sort)))
 
   -- what stands for an entry of the node is what was asked
-  pub row_entered : (out' : List TermNode) (es' : List Entry) (t : ℕ) → Placed base nodes out es out' es' r.select.elem t (λ a. select_value (value a nodes (length row)) (value a nodes i))
-      → Entered base nodes out es out' es' marks i (length row) t
+  pub row_entered : (out' : List TermNode) (es' : List Entry) (t : ℕ) → Placed base nodes out es out' es' r.select.elem t (λ a. select_value (value a nodes top) (value a nodes i))
+      → Read base nodes out es out' es' top i t
   row_entered out' es' t p = record {
     state = p.state;
     later = p.later;
-    entry = λ k x e sort.
+    entry = λ x e sort.
         let same_sort : Some (MapSort r.select.index r.select.elem) ≡ Some (MapSort x e) = sym row_sort ∙ sort in
         let same : r.select.elem ≡ e = cc in
-        subst (λ (s : Scalar). Stands nodes out' es' s t (λ a. select_value (value a nodes (length row)) (value a nodes i))) same p.stands;
+        subst (λ (s : Scalar). Stands nodes out' es' s t (λ a. select_value (value a nodes top) (value a nodes i))) same p.stands;
   }
 
-  pub row_from_variable : (n : ℕ) (sort : Sort) (out' : List TermNode) (es' : List Entry) (t : ℕ) → slice_get nodes (length row) ≡ Some (Variable n sort)
-      → Placed base nodes out es out' es' r.select.elem t (λ a. select_value (a n) (value a nodes i)) → Entered base nodes out es out' es' marks i (length row) t
+  pub row_from_variable : (n : ℕ) (sort : Sort) (out' : List TermNode) (es' : List Entry) (t : ℕ) → slice_get nodes top ≡ Some (Variable n sort)
+      → Placed base nodes out es out' es' r.select.elem t (λ a. select_value (a n) (value a nodes i)) → Read base nodes out es out' es' top i t
   row_from_variable n sort out' es' t is p = row_entered out' es' t (record {
     state = p.state;
     later = p.later;
-    stands = stands_as nodes out' es' r.select.elem t (λ a. select_value (a n) (value a nodes i)) (λ a. select_value (value a nodes (length row)) (value a nodes i))
+    stands = stands_as nodes out' es' r.select.elem t (λ a. select_value (a n) (value a nodes i)) (λ a. select_value (value a nodes top) (value a nodes i))
         (λ a ok. ap (λ (v : Value). select_value v (value a nodes i)) (sym (row_variable n sort is a))) p.stands;
   })
 
   -- no other node has a map sort
-  pub row_no_scalar : (s : Scalar) → sort_at nodes (length row) ≡ Some (ScalarSort s) → ⊥
+  pub row_no_scalar : (s : Scalar) → sort_at nodes top ≡ Some (ScalarSort s) → ⊥
   row_no_scalar s h = let other : Some (ScalarSort s) ≡ Some (MapSort r.select.index r.select.elem) = sym h ∙ row_sort in let e : ScalarSort s ≡ MapSort r.select.index r.select.elem = cc in no_scalar ⊥ s r.select.index r.select.elem e
 
-  pub row_no_lit : (v : Atom) → slice_get nodes (length row) ≡ Some (Lit v) → ⊥
+  pub row_no_lit : (v : Atom) → slice_get nodes top ≡ Some (Lit v) → ⊥
   row_no_lit v is =
-      let c = case_at nodes (length row) (Lit v) (MapSort r.select.index r.select.elem) row_sort is in
+      let c = case_at nodes top (Lit v) (MapSort r.select.index r.select.elem) row_sort is in
       let x = if_is (has_scalar v (scalar_of v)) (ScalarSort (scalar_of v)) (MapSort r.select.index r.select.elem) c.is in
       no_scalar ⊥ (scalar_of v) r.select.index r.select.elem x.0
 
-  pub row_no_unary : (op : UnOp) (j : ℕ) → slice_get nodes (length row) ≡ Some (Unary op j) → ⊥
+  pub row_no_unary : (op : UnOp) (j : ℕ) → slice_get nodes top ≡ Some (Unary op j) → ⊥
   row_no_unary op j is =
-      let c = case_at nodes (length row) (Unary op j) (MapSort r.select.index r.select.elem) row_sort is in
+      let c = case_at nodes top (Unary op j) (MapSort r.select.index r.select.elem) row_sort is in
       let u = unary_case op (slice_get c.known j) (MapSort r.select.index r.select.elem) c.is in
       no_scalar ⊥ u.answer r.select.index r.select.elem (sym u.is)
 
-  pub row_no_binary : (op : BvOp) (j k : ℕ) → slice_get nodes (length row) ≡ Some (Binary op j k) → ⊥
+  pub row_no_binary : (op : BvOp) (j k : ℕ) → slice_get nodes top ≡ Some (Binary op j k) → ⊥
   row_no_binary op j k is =
-      let c = case_at nodes (length row) (Binary op j k) (MapSort r.select.index r.select.elem) row_sort is in
+      let c = case_at nodes top (Binary op j k) (MapSort r.select.index r.select.elem) row_sort is in
       let u = binary_case op (slice_get c.known j) (slice_get c.known k) (MapSort r.select.index r.select.elem) c.is in
       no_scalar ⊥ u.answer r.select.index r.select.elem (sym u.is)
 
-  pub row_no_select : (x j : ℕ) → slice_get nodes (length row) ≡ Some (Select x j) → ⊥
+  pub row_no_select : (x j : ℕ) → slice_get nodes top ≡ Some (Select x j) → ⊥
   row_no_select x j is =
-      let c = case_at nodes (length row) (Select x j) (MapSort r.select.index r.select.elem) row_sort is in
+      let c = case_at nodes top (Select x j) (MapSort r.select.index r.select.elem) row_sort is in
       let u = select_case (slice_get c.known x) (slice_get c.known j) (MapSort r.select.index r.select.elem) c.is in
       no_scalar ⊥ u.elem r.select.index r.select.elem (sym u.is)
 
@@ -418,11 +426,25 @@ row_push_by [] t (suc j) P old new l = absurd (omega (arith, l))
 row_push_by (x ∷ row) t zero P old new l = old 0 (omega arith)
 row_push_by (x ∷ row) t (suc j) P old new l = row_push_by row t j (λ k y. P (suc k) y) (λ k q. old (suc k) (omega (arith, q))) new (omega (arith, l))
 
-pub row_push : (base : ℕ) (nodes out : List TermNode) (es : List Entry) (out' : List TermNode) (es' : List Entry) (i t : ℕ) (marks : List Bool) (row : List ℕ)
-    → RowStands nodes out es i marks row → Entered base nodes out es out' es' marks i (length row) t → RowStands nodes out' es' i marks (row ++ t ∷ [])
-row_push base nodes out es out' es' i t marks row h e j l =
-    row_push_by row t j (λ k y. is_marked marks k ≡ true → EntryStands nodes out' es' i k y)
-    (λ k q mark x z sort. stands_later out es out' es' e.later nodes z (slice_index row k) (λ a. select_value (value a nodes k) (value a nodes i)) (h k q mark x z sort)) e.entry l
+pub rows_later : (nodes out : List TermNode) (es : List Entry) (out' : List TermNode) (es' : List Entry) (rows : List ((ℕ × ℕ) × ℕ)) → Later out es out' es' → RowsStand nodes out es rows → RowsStand nodes out' es' rows
+rows_later nodes out es out' es' rows l h j i t is x e sort = stands_later out es out' es' l nodes e t (λ a. select_value (value a nodes j) (value a nodes i)) (h j i t is x e sort)
+
+rows_by : (P : ℕ → ℕ → ℕ → Type 0) (b : Bool) (j i t m k u : ℕ) (o : Option ℕ) → (nat_eq m j && nat_eq k i) ≡ b → (if b then Some u else o) ≡ Some t → P m k u → (o ≡ Some t → P j i t) → P j i t
+rows_by P false j i t m k u o test is new old = old is
+rows_by P true j i t m k u o test is new old =
+    let a : m ≡ j = number_is m j (and_left (nat_eq m j) (nat_eq k i) test) in
+    let b : k ≡ i = number_is k i (and_right (nat_eq m j) (nat_eq k i) test) in
+    let c : u ≡ t = cc in
+    subst (λ (x : ℕ). P x i t) a (subst (λ (x : ℕ). P m x t) b (subst (λ (x : ℕ). P m k x) c new))
+
+pub rows_none : (nodes out : List TermNode) (es : List Entry) (rows : List ((ℕ × ℕ) × ℕ)) → rows ≡ [] → RowsStand nodes out es rows
+rows_none nodes out es rows none j i t is = absurd (let no : None ≡ Some t → ⊥ = λ q. cc in no (ap (found j i) (sym none) ∙ is))
+
+-- one row more
+pub rows_set : (nodes out : List TermNode) (es : List Entry) (rows rows' : List ((ℕ × ℕ) × ℕ)) (m k u : ℕ) → RowsStand nodes out es rows → EntryStands nodes out es k m u
+    → ((a b : ℕ) → found a b rows' ≡ (if nat_eq m a && nat_eq k b then Some u else found a b rows)) → RowsStand nodes out es rows'
+rows_set nodes out es rows rows' m k u h new set j i t is =
+    rows_by (λ x y z. EntryStands nodes out es y x z) (nat_eq m j && nat_eq k i) j i t m k u (found j i rows) refl (sym (set j i) ∙ is) new (h j i t)
 
 pub reds_push : (base : ℕ) (nodes out : List TermNode) (es : List Entry) (out' : List TermNode) (es' : List Entry) (reds : List ℕ) (t : ℕ)
     → AllReduced nodes out es reds → Taken base nodes out es out' es' (length reds) t → AllReduced nodes out' es' (reds ++ t ∷ [])

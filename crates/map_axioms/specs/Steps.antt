@@ -1,5 +1,7 @@
 -- What the reduction keeps from step to step. No public clause cites it.
-use Rattle.std.specs.Prelude.{◌≡◌, ℕ, ◌+◌, ◌-◌, ◌*◌, ◌/◌, ◌%◌, ◌<◌, ◌≤◌, nat_lt, nat_eq, Bool, true, false, ◌&&◌, List, [], ◌∷◌, length, map, slice_get, slice_index, slice_index_or, ◌||◌, Option, None, Some, if◌then◌else◌, IsTrue, IsSome}
+use Rattle.std.specs.Prelude.{◌≡◌, ℕ, zero, suc, is_some, ◌+◌, ◌-◌, ◌*◌, ◌/◌, ◌%◌, ◌<◌, ◌≤◌, nat_lt, nat_eq, Bool, true, false, ◌&&◌, List, [], ◌∷◌, length, map, slice_get, slice_index, ◌||◌, Option, None, Some, if◌then◌else◌, IsTrue, IsSome}
+use Rattle.std.specs.Map.{lookup}
+use Rattle.std.specs.Option.{unwrap_or}
 use Rattle.hy_val.specs.Table.{Table}
 use Rattle.hy_val.specs.Maps.{stored}
 use Rattle.hy_val.specs.Sorts.{scalar_of}
@@ -60,6 +62,10 @@ AllHome base nodes (node ∷ more) = IsHome base nodes node × AllHome base node
 abbrev pub asked : ℕ → ℕ → List Entry → Option ℕ
 asked m i [] = None
 asked m i (e ∷ es) = if nat_eq e.map m && nat_eq e.place i then Some e.entry else asked m i es
+
+-- the number that stands under a key of two numbers
+abbrev pub found : ℕ → ℕ → List ((ℕ × ℕ) × ℕ) → Option ℕ
+found a b cells = lookup (λ (k : ℕ × ℕ). nat_eq a k.0 && nat_eq b k.1) cells
 
 -- no two entries are of one map variable at one node
 abbrev pub Apart : List Entry → Type 0
@@ -144,61 +150,41 @@ pub record IsAsked (base : ℕ) (nodes out : List TermNode) (es : List Entry) (m
   pub at : sort_at nodes place ≡ Some (ScalarSort sort)
   pub stands : Stands nodes out es sort index (λ a. value a nodes place)
 
--- ---- the entries of one map node after the other
+-- ---- the entries of map nodes
 
-abbrev pub is_marked : List Bool → ℕ → Bool
-is_marked marks j = slice_index_or marks j false
+-- the reduced node that stands under a map node and an index; 0 where there is none
+abbrev pub row_at : List ((ℕ × ℕ) × ℕ) → ℕ → ℕ → ℕ
+row_at rows j i = unwrap_or (found j i rows) 0
 
--- with a marked node its maps are marked
-abbrev pub MapsMarked : List Bool → TermNode → Type 0
-MapsMarked marks (Lit a) = Unit {0}
-MapsMarked marks (ZeroMap index elem) = Unit {0}
-MapsMarked marks (Variable n sort) = Unit {0}
-MapsMarked marks (Unary op child) = Unit {0}
-MapsMarked marks (Binary op left right) = Unit {0}
-MapsMarked marks (If test one other) = (is_marked marks one ≡ true) × (is_marked marks other ≡ true)
-MapsMarked marks (Select map index) = Unit {0}
-MapsMarked marks (Store map index value) = is_marked marks map ≡ true
+-- with the node's maps a reduced node stands at the index
+abbrev pub MapsKnown : List ((ℕ × ℕ) × ℕ) → ℕ → TermNode → Type 0
+MapsKnown rows i (Lit a) = Unit {0}
+MapsKnown rows i (ZeroMap index elem) = Unit {0}
+MapsKnown rows i (Variable n sort) = Unit {0}
+MapsKnown rows i (Unary op child) = Unit {0}
+MapsKnown rows i (Binary op left right) = Unit {0}
+MapsKnown rows i (If test one other) = IsSome (found one i rows) × IsSome (found other i rows)
+MapsKnown rows i (Select map index) = Unit {0}
+MapsKnown rows i (Store map index value) = IsSome (found map i rows)
 
--- the node's maps are those of nodes of this sort, before the place j
-abbrev pub MapsBefore : List TermNode → ℕ → Option Sort → TermNode → Type 0
-MapsBefore nodes j sort (Lit a) = Unit {0}
-MapsBefore nodes j sort (ZeroMap index elem) = Unit {0}
-MapsBefore nodes j sort (Variable n s) = Unit {0}
-MapsBefore nodes j sort (Unary op child) = Unit {0}
-MapsBefore nodes j sort (Binary op left right) = Unit {0}
-MapsBefore nodes j sort (If test one other) = ((one < j) × (sort_at nodes one ≡ sort)) × ((other < j) × (sort_at nodes other ≡ sort))
-MapsBefore nodes j sort (Select map index) = Unit {0}
-MapsBefore nodes j sort (Store map index value) = (map < j) × (sort_at nodes map ≡ sort)
+-- the node is made of the map j
+abbrev pub is_map_of : ℕ → TermNode → Bool
+is_map_of j (Lit a) = false
+is_map_of j (ZeroMap index elem) = false
+is_map_of j (Variable n sort) = false
+is_map_of j (Unary op child) = false
+is_map_of j (Binary op left right) = false
+is_map_of j (If test one other) = nat_eq j one || nat_eq j other
+is_map_of j (Select map index) = false
+is_map_of j (Store map index value) = nat_eq j map
 
--- marked before, or a map of the node
-abbrev pub is_new_mark : List Bool → TermNode → ℕ → Bool
-is_new_mark marks (Lit a) k = is_marked marks k
-is_new_mark marks (ZeroMap index elem) k = is_marked marks k
-is_new_mark marks (Variable n s) k = is_marked marks k
-is_new_mark marks (Unary op child) k = is_marked marks k
-is_new_mark marks (Binary op left right) k = is_marked marks k
-is_new_mark marks (If test one other) k = nat_eq k other || (nat_eq k one || is_marked marks k)
-is_new_mark marks (Select map index) k = is_marked marks k
-is_new_mark marks (Store map index value) k = nat_eq k map || is_marked marks k
+-- the node j is of the map node m's sort, and not behind it
+pub record IsPart (nodes : List TermNode) (m j : ℕ) : Type 0 where
+  pub within : j ≤ m
+  pub sort : sort_at nodes j ≡ sort_at nodes m
 
--- marks of nodes of the sort of the map node m, from the place j on with their maps
-pub record ConeFrom (nodes : List TermNode) (m j : ℕ) (marks : List Bool) : Type 0 where
-  pub count : length marks ≡ m + 1
-  pub within : j ≤ m + 1
-  pub top : is_marked marks m ≡ true
-  pub sort : (k : ℕ) → is_marked marks k ≡ true → sort_at nodes k ≡ sort_at nodes m
-  pub closed : (k : ℕ) (node : TermNode) → j ≤ k → is_marked marks k ≡ true → slice_get nodes k ≡ Some node → MapsMarked marks node
-
--- which nodes up to m a select of the map node m reads
-abbrev pub IsCone : List TermNode → ℕ → List Bool → Type 0
-IsCone nodes m marks = ConeFrom nodes m 0 marks
-
--- the node m is a map
-pub record IsMapAt (nodes : List TermNode) (m : ℕ) : Type 0 where
-  pub index : Scalar
-  pub elem : Scalar
-  pub sort : sort_at nodes m ≡ Some (MapSort index elem)
+abbrev pub AllParts : List TermNode → ℕ → List ℕ → Type 0
+AllParts nodes m js = (k j : ℕ) → slice_get js k ≡ Some j → IsPart nodes m j
 
 -- the node m is a map, and i an index of its index sort
 pub record IsSelect (nodes : List TermNode) (m i : ℕ) : Type 0 where
@@ -207,37 +193,57 @@ pub record IsSelect (nodes : List TermNode) (m i : ℕ) : Type 0 where
   pub map : sort_at nodes m ≡ Some (MapSort index elem)
   pub place : sort_at nodes i ≡ Some (ScalarSort index)
 
+-- the node k is no map
+pub record IsScalarAt (nodes : List TermNode) (k : ℕ) : Type 0 where
+  pub scalar : Scalar
+  pub is : sort_at nodes k ≡ Some (ScalarSort scalar)
+
+-- the node k, which is no map, is reduced to the node r
+pub record IsFirst (nodes : List TermNode) (reds : List ℕ) (r k : ℕ) : Type 0 where
+  pub within : k < length reds
+  pub red : slice_index reds k ≡ r
+  pub scalar : IsScalarAt nodes k
+
+-- what is found for a reduced node is reduced to it
+abbrev pub AreFirsts : List TermNode → List ℕ → (ℕ → Option ℕ) → Type 0
+AreFirsts nodes reds find = (r k : ℕ) → find r ≡ Some k → IsFirst nodes reds r k
+
 -- the reduced node t stands for the entry of the map node j at the value of the node i
 abbrev pub EntryStands : List TermNode → List TermNode → List Entry → ℕ → ℕ → ℕ → Type 0
 EntryStands nodes out es i j t =
     (index elem : Scalar) → sort_at nodes j ≡ Some (MapSort index elem) → Stands nodes out es elem t (λ a. select_value (value a nodes j) (value a nodes i))
 
--- the row has such a node for each marked one
-abbrev pub RowStands : List TermNode → List TermNode → List Entry → ℕ → List Bool → List ℕ → Type 0
-RowStands nodes out es i marks row = (j : ℕ) → j < length row → is_marked marks j ≡ true → EntryStands nodes out es i j (slice_index row j)
+-- the rows' reduced nodes are such
+abbrev pub RowsStand : List TermNode → List TermNode → List Entry → List ((ℕ × ℕ) × ℕ) → Type 0
+RowsStand nodes out es rows = (j i t : ℕ) → found j i rows ≡ Some t → EntryStands nodes out es i j t
 
--- the terms with such a node, where the map node j is marked
-pub record Entered (base : ℕ) (nodes out : List TermNode) (es : List Entry) (out' : List TermNode) (es' : List Entry) (marks : List Bool) (i j t : ℕ) : Type 0 where
-  pub state : State base nodes out' es'
-  pub later : Later out es out' es'
-  pub entry : is_marked marks j ≡ true → EntryStands nodes out' es' i j t
-
--- the terms with the node for the entry that a select reads
+-- the terms with the node for the entry of the map node m at the value of the node i
 pub record Read (base : ℕ) (nodes out : List TermNode) (es : List Entry) (out' : List TermNode) (es' : List Entry) (m i t : ℕ) : Type 0 where
   pub state : State base nodes out' es'
   pub later : Later out es out' es'
   pub entry : EntryStands nodes out' es' i m t
 
--- what a row stands on: the select, the reduced nodes, and the marks
-pub record IsRow (base : ℕ) (nodes out : List TermNode) (es : List Entry) (reds : List ℕ) (m i : ℕ) (marks : List Bool) (row : List ℕ) : Type 0 where
+-- what such a node stands on: the select, the reduced nodes, and the rows
+pub record IsRow (base : ℕ) (nodes out : List TermNode) (es : List Entry) (reds : List ℕ) (rows : List ((ℕ × ℕ) × ℕ)) (m i : ℕ) : Type 0 where
   pub state : State base nodes out es
   pub select : IsSelect nodes m i
-  pub cone : IsCone nodes m marks
   pub map_before : m < length reds
   pub place_before : i < length reds
   pub reduced : AllReduced nodes out es reds
-  pub within : length row ≤ m
-  pub stands : RowStands nodes out es i marks row
+  pub stands : RowsStand nodes out es rows
+
+-- what a function gives below n, added up
+abbrev pub sum_below : ℕ → (ℕ → ℕ) → ℕ
+sum_below zero f = 0
+sum_below (suc n) f = f n + sum_below n f
+
+-- how many of n nodes have a reduced node at the index
+abbrev pub known_at : ℕ → List ((ℕ × ℕ) × ℕ) → ℕ → ℕ
+known_at n rows i = sum_below n (λ j. if is_some (found j i rows) then 1 else 0)
+
+-- how many reduced nodes of n nodes at n indexes are known
+abbrev pub known : ℕ → List ((ℕ × ℕ) × ℕ) → ℕ
+known n rows = sum_below n (known_at n rows)
 
 -- ---- congruence
 
@@ -253,6 +259,17 @@ pairs_on vs p (q ∷ qs) = pair_on vs p q && pairs_on vs p qs
 abbrev pub congruent : List Value → List Entry → Bool
 congruent vs [] = true
 congruent vs (p ∷ ps) = pairs_on vs p ps && congruent vs ps
+
+-- l is the place of the first entry of the map variable m from the place a on; where there is none, no entry of it stands before l
+pub record IsNext (es : List Entry) (m a l : ℕ) : Type 0 where
+  pub after : a ≤ l
+  pub skips : (k : ℕ) (x : Entry) → a ≤ k → k < l → slice_get es k ≡ Some x → nat_eq m x.map ≡ false
+  pub at : (x : Entry) → slice_get es l ≡ Some x → x.map ≡ m
+
+-- from the place i on, each entry has the next one of its map
+pub record LinksFrom (es : List Entry) (ls : List ℕ) (i : ℕ) : Type 0 where
+  pub count : length ls ≡ length es
+  pub next : (k l : ℕ) (e : Entry) → i ≤ k → slice_get es k ≡ Some e → slice_get ls k ≡ Some l → IsNext es e.map (k + 1) l
 
 -- the terms with a node that is true where another one is and the condition holds
 pub record Conjoined (base : ℕ) (nodes out : List TermNode) (es : List Entry) (out' : List TermNode) (all t : ℕ) (condition : List Value → Bool) : Type 0 where
@@ -279,7 +296,7 @@ pub record AllTaken (base : ℕ) (nodes out : List TermNode) (es : List Entry) (
   pub state : State base nodes out es
   pub count : length reds ≡ length nodes
   pub each : AllReduced nodes out es reds
-  pub few_nodes : length out ≤ 1 + 2 * (length nodes * length nodes)
+  pub few_nodes : length out ≤ 1 + length nodes + 2 * (length nodes * length nodes)
   pub few_entries : length es ≤ length nodes * length nodes
 
 -- the whole reduction

@@ -1,14 +1,18 @@
 //! Congruence: entries of one map at equal indexes are equal.
-ghost use Rattle.std.specs.Prelude.{◌≡◌, ◌≤◌, ◌+◌, ◌*◌, length, nat_eq, if◌then◌else◌, Some, IfOk, OnOk};
+ghost use Rattle.std.specs.Prelude.{◌≡◌, ◌≤◌, ◌+◌, ◌*◌, length, drop, nat_eq, slice_get, if◌then◌else◌, Some, IfOk, OnOk};
+ghost use Rattle.std.specs.Option.{unwrap_or};
 ghost use Rattle.hy_val.specs.declared.sort.ScalarKind.TheVariants.{Bool as BoolSort};
 ghost use Rattle.hy_val.specs.declared.sort.SortKind.TheVariants.{Scalar as ScalarSort};
 ghost use Rattle.hy_term.specs.TermSorts.{sort_at};
-ghost use Rattle.map_axioms.specs.Steps.{AllKept, Conjoined, EntryKept, State, congruent, of_map, pair_on, pairs, pairs_on};
+ghost use Rattle.indexmap.specs.IndexMap.{get};
+ghost use Rattle.map_axioms.specs.Steps.{Conjoined, EntryKept, LinksFrom, State, congruent, of_map, pair_on, pairs, pairs_on};
 
 use crate::entry::Entry;
 use hy_term::{TermNode, Terms};
 use hy_val::BvOp;
-use std::alloc::AllocError;
+use indexmap::IndexMap;
+use sqlite_items::Items;
+use std::alloc::{AllocError, Global};
 
 // Of two entries of one map: equal indexes have equal entries. Others need nothing.
 fn with_pair(
@@ -54,32 +58,67 @@ fn with_pair(
     Ok(both)
 }
 
-// The same of an entry and each of others.
+// The place of the next entry of a map; the count of all entries where there is none.
+fn next_of(next: &IndexMap<usize, usize>, map: usize, count: usize) -> usize
+    ensures { result ≡ unwrap_or (get nat_eq next.now map) count }
+{
+    match next.get(&map) {
+        None => count,
+        Some(place) => *place,
+    }
+}
+
+// For each entry the place of the next one of its map; the count of all entries where there is none.
+fn links(alloc: Global, entries: &[Entry]) -> Result<Items<usize>, AllocError>
+    ensures { IfOk result (λ ls. LinksFrom entries.now ls 0) }
+{
+    let count = entries.len();
+    let mut links = Items::new(alloc);
+    'fill: while links.len() < count {
+        links.push(count)?;
+    }
+    let mut next = IndexMap::new(alloc);
+    let mut left = count;
+    'back: while left > 0 {
+        left -= 1;
+        let map = entries[left].map;
+        let later = next_of(&next, map, count);
+        links.set(left, later);
+        next.insert(map, left)?;
+    }
+    Ok(links)
+}
+
+// The same of the entry at a place and each later one of its map.
 fn with_pairs(
     nodes: &[TermNode],
     base: usize,
     out: &mut Terms,
     entries: &[Entry],
+    links: &[usize],
     all: usize,
+    place: usize,
     one: Entry,
-    others: &[Entry],
 ) -> Result<usize, AllocError>
     requires state { State base nodes.now out.old.nodes entries.now }
+    requires links { LinksFrom entries.now links.now 0 }
     requires all { sort_at out.old.nodes all ≡ Some (ScalarSort BoolSort) }
-    requires one { EntryKept base nodes.now out.old.nodes entries.now one }
-    requires others { AllKept base nodes.now out.old.nodes entries.now others.now }
-    ensures all { IfOk result (λ t. Conjoined base nodes.now out.old.nodes entries.now out.new.nodes all t (λ vs. pairs_on vs one others.now)) }
-    ensures nodes { OnOk result (length out.new.nodes ≤ length out.old.nodes + 4 * of_map one others.now) }
+    requires one { slice_get entries.now place ≡ Some one }
+    ensures all { IfOk result (λ t. Conjoined base nodes.now out.old.nodes entries.now out.new.nodes all t (λ vs. pairs_on vs one (drop (place + 1) entries.now))) }
+    ensures nodes { OnOk result (length out.new.nodes ≤ length out.old.nodes + 4 * of_map one (drop (place + 1) entries.now)) }
 {
     let mut whole = all;
-    for other in others {
-        whole = with_pair(nodes, base, out, entries, whole, one, *other)?;
+    let mut next = links[place];
+    'pairs: while next < entries.len() {
+        whole = with_pair(nodes, base, out, entries, whole, one, entries[next])?;
+        next = links[next];
     }
     Ok(whole)
 }
 
 /// A node that is true where another one is, and entries of one map at equal indexes are equal.
 pub(crate) fn congruent(
+    alloc: Global,
     nodes: &[TermNode],
     base: usize,
     out: &mut Terms,
@@ -91,9 +130,11 @@ pub(crate) fn congruent(
     ensures all { IfOk result (λ t. Conjoined base nodes.now out.old.nodes entries.now out.new.nodes all t (λ vs. congruent vs entries.now)) }
     ensures nodes { OnOk result (length out.new.nodes ≤ length out.old.nodes + 4 * pairs entries.now) }
 {
+    let found = links(alloc, entries)?;
+    let links = found.as_slice();
     let mut whole = all;
     for (i, one) in entries.iter().enumerate() {
-        whole = with_pairs(nodes, base, out, entries, whole, *one, &entries[i + 1..])?;
+        whole = with_pairs(nodes, base, out, entries, links, whole, i, *one)?;
     }
     Ok(whole)
 }

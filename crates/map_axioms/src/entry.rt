@@ -3,11 +3,11 @@ ghost use Rattle.std.specs.Prelude.{◌≡◌, ◌≤◌, ◌+◌, length, IfOk,
 ghost use Rattle.hy_val.specs.Sorts.{is_scalar};
 ghost use Rattle.hy_val.specs.Values.{select_value};
 ghost use Rattle.hy_term.specs.Meaning.{value};
-ghost use Rattle.map_axioms.specs.Steps.{IsAsked, Placed, State, asked, entry_number};
+ghost use Rattle.map_axioms.specs.Steps.{IsAsked, Placed, State, entry_number};
 
+use crate::entries::Entries;
 use hy_term::{TermNode, Terms};
 use hy_val::{Scalar, Sort};
-use sqlite_items::Items;
 use std::alloc::AllocError;
 
 /// An entry of a map variable at the value of an index, which a variable of the reduced terms stands for.
@@ -34,18 +34,6 @@ fn entry_number(base: usize, place: usize, map: usize) -> Option<usize>
     first.checked_add(map)
 }
 
-// The node for the entry of a map variable at a node, where one was asked for.
-fn asked(entries: &[Entry], map: usize, place: usize) -> Option<usize>
-    ensures { result ≡ asked map place entries.now }
-{
-    for entry in entries {
-        if entry.map == map && entry.place == place {
-            return Some(entry.entry);
-        }
-    }
-    None
-}
-
 /// A map variable and an index for it, as nodes of the source and of the reduced terms.
 #[derive(Clone, Copy, Debug, PartialEq, Eq)]
 pub(crate) struct Ask {
@@ -60,7 +48,7 @@ pub(crate) fn variable_entry(
     nodes: &[TermNode],
     base: usize,
     out: &mut Terms,
-    entries: &mut Items<Entry>,
+    entries: &mut Entries,
     ask: Ask,
 ) -> Result<usize, AllocError>
     requires state { State base nodes.now out.old.nodes entries.old }
@@ -70,7 +58,7 @@ pub(crate) fn variable_entry(
     ensures nodes { OnOk result (length out.new.nodes ≤ length out.old.nodes + 1) }
     ensures entries { OnOk result (length entries.new ≤ length entries.old + 1) }
 {
-    if let Some(entry) = asked(entries.as_slice(), ask.map, ask.place) {
+    if let Some(entry) = entries.find(ask.map, ask.place) {
         return Ok(entry);
     }
     let number = entry_number(base, ask.place, ask.map).ok_or(AllocError)?;

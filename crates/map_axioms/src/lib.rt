@@ -1,14 +1,16 @@
 //! Questions over bool, bit vectors and maps become questions without maps.
 #![tactic(auto)]
 
-mod cone;
 mod congruence;
+mod entries;
 mod entry;
+mod firsts;
 mod lifting;
 mod node;
 mod plan;
 mod reduction;
 mod row;
+mod table;
 mod values;
 
 pub use lifting::lift;

@@ -1,15 +1,18 @@
 //! The reduced terms for the nodes that aren't maps.
-ghost use Rattle.std.specs.Prelude.{◌≡◌, ◌<◌, ◌≤◌, ◌+◌, ◌*◌, length, slice_get, Some, IfOk, OnOk, IsTrue};
+ghost use Rattle.std.specs.Prelude.{◌≡◌, ◌<◌, ◌≤◌, ◌+◌, ◌*◌, length, nat_eq, slice_get, Some, IfOk, OnOk, IsTrue};
 ghost use Rattle.hy_val.specs.declared.sort.SortKind.TheVariants.{Scalar as ScalarSort};
 ghost use Rattle.hy_term.specs.TermSorts.{sort_at};
 ghost use Rattle.hy_term.specs.Variables.{below};
-ghost use Rattle.map_axioms.specs.Steps.{AllReduced, State, Taken, renamed};
+ghost use Rattle.indexmap.specs.IndexMap.{get};
+ghost use Rattle.map_axioms.specs.Steps.{AllReduced, AreFirsts, RowsStand, State, Taken, known, renamed};
 
-use crate::entry::Entry;
+use crate::entries::Entries;
+use crate::firsts::first_of;
 use crate::row::{entry_of, reduced_at};
+use crate::table::Table;
 use hy_term::{TermNode, Terms};
 use hy_val::{Scalar, SortKind};
-use sqlite_items::Items;
+use indexmap::IndexMap;
 use std::alloc::{AllocError, Global};
 
 // The node with its children renamed, where it has no maps.
@@ -45,24 +48,31 @@ fn scalar_node(
     terms: &Terms,
     base: usize,
     out: &mut Terms,
-    entries: &mut Items<Entry>,
+    entries: &mut Entries,
+    rows: &mut Table,
+    firsts: &mut IndexMap<usize, usize>,
     reds: &[usize],
     node: TermNode,
     sort: Scalar,
 ) -> Result<usize, AllocError>
     requires under { IsTrue (below base terms.now.nodes) }
     requires state { State base terms.now.nodes out.old.nodes entries.old }
+    requires rows { RowsStand terms.now.nodes out.old.nodes entries.old rows.old }
+    requires firsts { AreFirsts terms.now.nodes reds.now (get nat_eq firsts.old) }
     requires reds { AllReduced terms.now.nodes out.old.nodes entries.old reds.now }
     requires node { slice_get terms.now.nodes (length reds.now) ≡ Some node }
     requires sort { sort_at terms.now.nodes (length reds.now) ≡ Some (ScalarSort sort) }
     ensures node { IfOk result (λ t. Taken base terms.now.nodes out.old.nodes entries.old out.new.nodes entries.new (length reds.now) t) }
-    ensures nodes { OnOk result (length out.new.nodes ≤ length out.old.nodes + 2 * length terms.now.nodes) }
-    ensures entries { OnOk result (length entries.new ≤ length entries.old + length terms.now.nodes) }
+    ensures firsts { OnOk result (AreFirsts terms.now.nodes reds.now (get nat_eq firsts.new)) }
+    ensures rows { OnOk result (RowsStand terms.now.nodes out.new.nodes entries.new rows.new) }
+    ensures nodes { OnOk result (length out.new.nodes + 2 * known (length terms.now.nodes) rows.old ≤ length out.old.nodes + 2 * known (length terms.now.nodes) rows.new + 1) }
+    ensures entries { OnOk result (length entries.new + known (length terms.now.nodes) rows.old ≤ length entries.old + known (length terms.now.nodes) rows.new) }
 {
-    let _nodes = terms.nodes();
+    let nodes = terms.nodes();
     match node {
         TermNode::Select { map, index } => {
-            let red = entry_of(alloc, terms, base, out, entries, reds, map, index)?;
+            let place = first_of(firsts, nodes, reds, index)?;
+            let red = entry_of(alloc, terms, base, out, entries, rows, reds, map, place)?;
             Ok(red)
         }
         _ => {
@@ -78,16 +88,22 @@ pub(crate) fn reduced(
     terms: &Terms,
     base: usize,
     out: &mut Terms,
-    entries: &mut Items<Entry>,
+    entries: &mut Entries,
+    rows: &mut Table,
+    firsts: &mut IndexMap<usize, usize>,
     reds: &[usize],
 ) -> Result<usize, AllocError>
     requires under { IsTrue (below base terms.now.nodes) }
     requires state { State base terms.now.nodes out.old.nodes entries.old }
+    requires rows { RowsStand terms.now.nodes out.old.nodes entries.old rows.old }
+    requires firsts { AreFirsts terms.now.nodes reds.now (get nat_eq firsts.old) }
     requires reds { AllReduced terms.now.nodes out.old.nodes entries.old reds.now }
     requires next { length reds.now < length terms.now.nodes }
     ensures node { IfOk result (λ t. Taken base terms.now.nodes out.old.nodes entries.old out.new.nodes entries.new (length reds.now) t) }
-    ensures nodes { OnOk result (length out.new.nodes ≤ length out.old.nodes + 2 * length terms.now.nodes) }
-    ensures entries { OnOk result (length entries.new ≤ length entries.old + length terms.now.nodes) }
+    ensures firsts { OnOk result (AreFirsts terms.now.nodes reds.now (get nat_eq firsts.new)) }
+    ensures rows { OnOk result (RowsStand terms.now.nodes out.new.nodes entries.new rows.new) }
+    ensures nodes { OnOk result (length out.new.nodes + 2 * known (length terms.now.nodes) rows.old ≤ length out.old.nodes + 2 * known (length terms.now.nodes) rows.new + 1) }
+    ensures entries { OnOk result (length entries.new + known (length terms.now.nodes) rows.old ≤ length entries.old + known (length terms.now.nodes) rows.new) }
 {
     let nodes = terms.nodes();
     match terms.sort_of(reds.len()).kind() {
@@ -99,6 +115,8 @@ pub(crate) fn reduced(
                 base,
                 out,
                 entries,
+                rows,
+                firsts,
                 reds,
                 nodes[reds.len()],
                 sort,

@@ -6,11 +6,13 @@ ghost use Rattle.map_axioms.specs.Reduction.{KeepsHolding, KeepsScalars};
 ghost use Rattle.map_axioms.specs.Steps.{AllTaken, IsPlan, State};
 
 use crate::congruence::congruent;
-use crate::entry::Entry;
+use crate::entries::Entries;
 use crate::node::reduced;
 use crate::plan::Plan;
 use crate::row::reduced_at;
+use crate::table::Table;
 use hy_term::{Reduced, Terms};
+use indexmap::IndexMap;
 use sqlite_items::Items;
 use std::alloc::{AllocError, Global};
 
@@ -20,7 +22,7 @@ fn all_nodes(
     terms: &Terms,
     base: usize,
     out: &mut Terms,
-    entries: &mut Items<Entry>,
+    entries: &mut Entries,
 ) -> Result<Items<usize>, AllocError>
     requires under { IsTrue (below base terms.now.nodes) }
     requires state { State base terms.now.nodes out.old.nodes entries.old }
@@ -30,19 +32,26 @@ fn all_nodes(
 {
     let count = terms.nodes().len();
     let mut reds = Items::new(alloc);
+    let mut rows = Table::new(alloc);
+    let mut firsts = IndexMap::new(alloc);
     'nodes: while reds.len() < count {
-        let red = reduced(alloc, terms, base, out, entries, reds.as_slice())?;
+        let red = reduced(
+            alloc,
+            terms,
+            base,
+            out,
+            entries,
+            &mut rows,
+            &mut firsts,
+            reds.as_slice(),
+        )?;
         reds.push(red)?;
     }
     Ok(reds)
 }
 
 // The reduced terms, with the entries that variables stand for.
-fn reduced_terms(
-    alloc: Global,
-    terms: &Terms,
-    entries: &mut Items<Entry>,
-) -> Result<Terms, AllocError>
+fn reduced_terms(alloc: Global, terms: &Terms, entries: &mut Entries) -> Result<Terms, AllocError>
     requires { entries.old ≡ [] }
     ensures plan { IfOk result (λ out. IsPlan terms.now out entries.new) }
     ensures count { IfOk result (λ out. length out.nodes ≤ 1024 * length terms.now.nodes ^ 3) }
@@ -52,7 +61,7 @@ fn reduced_terms(
     let mut out = Terms::new(alloc)?;
     let reds = all_nodes(alloc, terms, base, &mut out, entries)?;
     let root = reduced_at(reds.as_slice(), terms.root());
-    let all = congruent(nodes, base, &mut out, entries.as_slice(), root)?;
+    let all = congruent(alloc, nodes, base, &mut out, entries.as_slice(), root)?;
     out.set_root(all);
     Ok(out)
 }
@@ -70,14 +79,14 @@ pub fn reduce(alloc: Global, terms: &Terms) -> Result<(Reduced, Plan), AllocErro
     ensures count { IfOk result (λ r. length r.0.nodes ≤ 1024 * length terms.now.nodes ^ 3) }
     ensures plan { IfOk result (λ r. r.1 ≡ record { source = terms.now; reduced = r.0 }) }
 {
-    let mut entries = Items::new(alloc);
+    let mut entries = Entries::new(alloc);
     let out = reduced_terms(alloc, terms, &mut entries)?;
     let source = terms.copy(alloc)?;
     let reduced = out.copy(alloc)?;
     let plan = Plan {
         source,
         reduced,
-        entries,
+        entries: entries.into_items(),
     };
     Ok((Reduced::new(out), plan))
 }

@@ -1,28 +1,16 @@
 //! The values of reduced terms, from atoms for their variables.
-ghost use Rattle.std.specs.Prelude.{◌≡◌, true, nat_lt, map, IfOk, IsTrue, IsSome};
+ghost use Rattle.std.specs.Prelude.{◌≡◌, true, map, IfOk, IsTrue, IsSome};
 ghost use Rattle.hy_val.specs.Values.{at, is_on};
 ghost use Rattle.hy_val.specs.declared.value.Value.TheVariants.{Atom as AtomValue};
 ghost use Rattle.hy_term.specs.TermSorts.{are_plain, is_plain, sort_of_node, sorts};
 ghost use Rattle.hy_term.specs.Meaning.{fits, node_fits, node_value, values};
-ghost use Rattle.hy_term.specs.Variables.{ascend, count_below, numbers_of};
+ghost use Rattle.hy_term.specs.Variables.{ascend, numbers_of};
 ghost use Rattle.map_axioms.specs.Steps.{atom_sorts, atom_values, chosen_by};
 
-use hy_term::{TermNode, TermVariable};
+use hy_term::{TermNode, TermVariable, place_of};
 use hy_val::{Atom, AtomKind, apply, apply1};
 use sqlite_items::Items;
 use std::alloc::{AllocError, Global};
-
-// How many of the variables, which ascend by number, have a number below this.
-fn place(variables: &[TermVariable], number: usize) -> usize
-    requires { IsTrue (ascend (numbers_of variables.now)) }
-    ensures { result ≡ count_below number variables.now }
-{
-    variables.partition_point(
-        |variable: &TermVariable| -> bool
-            ensures { result ≡ nat_lt variable.now.number number }
-        { variable.number < number },
-    )
-}
 
 /// The atom at a place; false where there is none.
 pub(crate) fn atom_at(atoms: &[Atom], place: usize) -> Atom
@@ -40,7 +28,7 @@ pub(crate) fn atom_of(variables: &[TermVariable], atoms: &[Atom], number: usize)
     requires { IsTrue (ascend (numbers_of variables.now)) }
     ensures { AtomValue result ≡ chosen_by variables.now atoms.now number }
 {
-    let place = place(variables, number);
+    let place = place_of(variables, number);
     match sqlite_items::at(variables, place) {
         Some(variable) => {
             if variable.number == number {
