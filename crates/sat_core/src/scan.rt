@@ -2,7 +2,7 @@
 ghost use Rattle.std.specs.Prelude.{◌≡◌, ◌+◌, ◌<◌, ◌≤◌, [], ◌∷◌, ◌++◌, length, take, map, IfOk, OnOk, OnErr};
 ghost use Rattle.sat_core.specs.Scan.{IsSeenBetween};
 
-use cnf_form::{Clause, ClauseStore, Clauses, Lit, Look, Seen, Trail, look_at};
+use cnf_form::{Clause, ClauseStore, Clauses, Cnf, Lit, Look, Seen, Trail, look_at};
 use std::alloc::{AllocError, Global};
 
 /// The plain store, which looks at one clause after another.
@@ -24,6 +24,19 @@ impl ScanStore {
     {
         Ok(ScanStore {
             clauses: Clauses::new(alloc),
+            trail: Trail::new(alloc),
+            at: 0,
+        })
+    }
+
+    /// A store of exactly the clauses of the formula, by their numbers, with no literal. `AllocError` comes where memory
+    /// runs out.
+    pub fn of_cnf(alloc: Global, cnf: &Cnf) -> Result<Self, AllocError>
+        ensures clauses { IfOk result (λ s. s.clauses ≡ cnf.now.clauses) }
+        ensures assigned { IfOk result (λ s. s.trail ≡ []) }
+    {
+        Ok(ScanStore {
+            clauses: cnf.clauses.copy(alloc)?,
             trail: Trail::new(alloc),
             at: 0,
         })

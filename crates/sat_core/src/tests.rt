@@ -91,22 +91,9 @@ fn push_clause(alloc: Global, cnf: &mut Cnf, codes: &[usize]) -> Result<(), Allo
     Ok(())
 }
 
-/// A store of the clauses of the formula.
-fn store_of(alloc: Global, cnf: &Cnf) -> Result<ScanStore, AllocError>
-    ensures clauses { IfOk result (λ s. s.clauses ≡ cnf.now.clauses) }
-    ensures assigned { IfOk result (λ s. s.trail ≡ []) }
-{
-    let mut store = ScanStore::new(alloc)?;
-    let clauses = cnf.clauses.as_slice();
-    for clause in clauses {
-        store.add(clause.copy(alloc)?)?;
-    }
-    Ok(store)
-}
-
 /// What the solver answers on the formula.
 fn solved(alloc: Global, cnf: &Cnf) -> Result<Answer, AllocError> {
-    let mut store = store_of(alloc, cnf)?;
+    let mut store = ScanStore::of_cnf(alloc, cnf)?;
     Ok(solve(alloc, cnf.variables, &mut store))
 }
 
