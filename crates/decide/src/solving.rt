@@ -1,5 +1,5 @@
 //! The way from terms to a decision: over terms without maps, a net and its clauses to the solver, and back.
-ghost use Rattle.std.specs.Prelude.{◌≡◌, ◌+◌, [], length, IfOk};
+ghost use Rattle.std.specs.Prelude.{◌≡◌, ◌+◌, length, IfOk};
 ghost use Rattle.cnf_form.specs.Literal.{Satisfiable};
 ghost use Rattle.sat_core.specs.Answer.{IsAnswer, RefutesAnew};
 ghost use Rattle.gate_net.specs.Encoding.{IsRunOf};
@@ -8,7 +8,7 @@ ghost use Rattle.decide.specs.Decided.{IsDecision, IsModel};
 
 use crate::decision::Decision;
 use bit_blast::{blast, read_back};
-use cnf_form::{ClauseStore, Cnf, Log, Refuted};
+use cnf_form::{Cnf, Log, Refuted};
 use gate_net::{Net, clauses};
 use hy_term::{Reduced, Terms};
 use hy_val::Value;
@@ -18,24 +18,11 @@ use sat_core::{Answer, ScanStore, solve};
 use sqlite_items::Items;
 use std::alloc::{AllocError, Global};
 
-// The store of a formula's clauses.
-fn store_of(alloc: Global, cnf: &Cnf) -> Result<ScanStore, AllocError>
-    ensures clauses { IfOk result (λ s. s.clauses ≡ cnf.now.clauses) }
-    ensures assigned { IfOk result (λ s. s.trail ≡ []) }
-{
-    let mut store = ScanStore::new(alloc)?;
-    let clauses = cnf.clauses.as_slice();
-    for clause in clauses {
-        store.add(clause.copy(alloc)?)?;
-    }
-    Ok(store)
-}
-
 // What the solver answers of a formula.
 fn answer_of(alloc: Global, cnf: &Cnf) -> Result<Answer, AllocError>
     ensures { IfOk result (IsAnswer cnf.now.variables cnf.now.clauses) }
 {
-    let mut store = store_of(alloc, cnf)?;
+    let mut store = ScanStore::of_cnf(alloc, cnf)?;
     let answer = solve(alloc, cnf.variables, &mut store);
     Ok(answer)
 }
