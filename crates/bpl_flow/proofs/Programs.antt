@@ -17,7 +17,7 @@ use Rattle.bpl_flow.specs.declared.fault.FlowFault.{FlowFault}
 use Rattle.bpl_flow.specs.declared.state.End.TheVariants.{Returns}
 use Rattle.bpl_flow.specs.declared.state.Walk.{Walk}
 use Rattle.bpl_type.specs.WellTyped.{body_fits, body_scope, callee_fits, callees_of, constant_scope, have_sorts, is_typed, named, proc_fits, sorts_of, stmt_fits}
-use Rattle.bpl_type.specs.declared.typed.Named.{Named as TypedName}
+use Rattle.type_pass.specs.declared.tables.Named.{Named as TypedName}
 use Rattle.bpl_type.specs.declared.typed.Typed.{Typed}
 use Rattle.bpl_type.specs.declared.typed.TypedBody.{TypedBody}
 use Rattle.bpl_type.specs.declared.typed.TypedProc.{TypedProc}

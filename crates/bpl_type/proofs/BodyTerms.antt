@@ -8,14 +8,14 @@ use Rattle.bpl_ast.specs.declared.decl.Ast.{Ast}
 use Rattle.bpl_ast.specs.declared.decl.Function.{Function}
 use Rattle.bpl_ast.specs.declared.expr.Expr.{Expr}
 use Rattle.hy_val.specs.declared.expr.ExprNode.{ExprNode}
-use Rattle.bpl_type.specs.declared.tables.Scope.{Scope}
-use Rattle.bpl_type.specs.declared.tables.Signature.{Signature}
-use Rattle.bpl_type.specs.declared.tables.Tables.{Tables}
+use Rattle.type_pass.specs.declared.tables.Scope.{Scope}
+use Rattle.type_pass.specs.declared.tables.Signature.{Signature}
+use Rattle.type_pass.specs.declared.tables.Tables.{Tables}
 use Rattle.bpl_type.specs.Making.{read_back, body_nodes, use_with, term_with, body_of, bodies_of}
-use Rattle.bpl_type.specs.Passes.{uses, function_number}
-use Rattle.bpl_type.specs.Replaced.{Use, term_of, body_named, body_term, meant, used, use_within}
-use Rattle.bpl_type.specs.Scopes.{function_scope, function_named}
-use Rattle.bpl_type.specs.Terms.{missing, nodes_of}
+use Rattle.type_pass.specs.Passes.{uses, function_number}
+use Rattle.type_pass.specs.Replaced.{Use, term_of, body_named, body_term, meant, used, use_within}
+use Rattle.type_pass.specs.Scopes.{function_scope, function_named}
+use Rattle.type_pass.specs.Terms.{missing, nodes_of}
 use Rattle.bpl_type.proofs.Elements.{found, find-map, position-map, all_every}
 use Rattle.bpl_type.proofs.FunctionsFit.{FunctionsSound, t, fs, sig, named}
 use Rattle.bpl_type.proofs.MakingLaws.{reads-back}

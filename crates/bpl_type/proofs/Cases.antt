@@ -1,6 +1,6 @@
 -- The definitions, computed on small programs. Each tree is that of the text above it.
-use Rattle.std.proofs.Common.{◌≡◌, ℕ, Bool, true, false, List, [], ◌∷◌, Option, None, Some, Ok, Err, refl}
-use Rattle.std.specs.Prelude.{codes, ◌++◌, ◌+◌}
+use Rattle.std.proofs.Common.{◌≡◌, ℕ, Bool, true, false, List, [], ◌∷◌, Option, None, Some, Ok, Err, refl, ap, arith, ◌*◌}
+use Rattle.std.specs.Prelude.{codes, ◌++◌, ◌+◌, nat_le}
 use Rattle.bpl_ast.specs.declared.decl.Ast.{Ast}
 use Rattle.bpl_ast.specs.declared.decl.Body.{Body}
 use Rattle.bpl_ast.specs.declared.decl.Decl.{Decl}
@@ -26,11 +26,17 @@ use Rattle.hy_val.specs.declared.expr.Var.TheVariants.{Const}
 use Rattle.hy_val.specs.declared.operator.BvOp.TheVariants.{Eq, Implies}
 use Rattle.hy_val.specs.declared.sort.ScalarKind.TheVariants.{Bool as BoolSort}
 use Rattle.hy_val.specs.declared.sort.SortKind.TheVariants.{Scalar as ScalarSort}
-use Rattle.bpl_type.specs.declared.fault.TypeKind.TheVariants.{Unknown, Twice, Mismatch, Arity, Width, Cyclic, NotAssignable, Large, LeftOut}
+use Rattle.type_pass.specs.declared.tables.Tables.{Tables}
+use Rattle.type_pass.specs.declared.fault.TypeKind.TheVariants.{Unknown, Twice, Mismatch, Arity, Width, Cyclic, NotAssignable, Large, LeftOut}
 use Rattle.bpl_type.specs.Checked.{checked, checked_within}
-use Rattle.bpl_type.specs.Faults.{fault}
-use Rattle.bpl_type.specs.Sorts.{sort_faults, inside_map}
+use Rattle.type_pass.specs.ExprSorts.{part}
+use Rattle.type_pass.specs.Faults.{fault, told}
+use Rattle.type_pass.specs.Scopes.{tables_of, axiom_scope}
+use Rattle.bpl_type.specs.Sizes.{heavy_fault}
+use Rattle.type_pass.specs.Sorts.{sort_faults, inside_map}
+use Rattle.bpl_type.specs.Weights.{Templates, Weight, weight_by}
 use Rattle.bpl_type.proofs.Equations.{equations}
+use Rattle.bpl_type.proofs.WeightEquations.{weight-apply, weight-true}
 
 abbrev program : List Decl → Ast
 program ds = record { decls = ds }
@@ -211,3 +217,38 @@ implied_by = simp (equations, sort_faults, inside_map) refl
 -- var g: bool; axiom g;
 pub global_in_axiom : checked (program (var_at 0 ((name 4 (codes "g")) ∷ []) (sorts.Boolean 7) ∷ axiom_at 13 (e.Variable (name 19 (codes "g"))) ∷ [])) ≡ Err (fault 19 Unknown)
 global_in_axiom = simp (equations, sort_faults, inside_map) refl
+
+-- a function that doubles, counted by its template: one node, and its argument twice
+-- function f(a: bool): bool { a == a } axiom f(f(f(true)));
+abbrev doubling : Templates
+doubling text = (1, 2 ∷ [])
+
+abbrev thrice : Expr
+thrice = e.Apply (name 43 (codes "f")) (e.Apply (name 45 (codes "f")) (e.Apply (name 47 (codes "f")) (e.True 49 ∷ []) ∷ []) ∷ [])
+
+abbrev doubled : Tables
+doubled = tables_of (program (function_at 0 [] (name 9 (codes "f")) (record { at = 11; name = Some (name 11 (codes "a")); sort = sorts.Boolean 14 } ∷ []) (Plain 19 (sorts.Boolean 21)) (Some (e.Equal 28 (e.Variable (name 28 (codes "a"))) (e.Variable (name 33 (codes "a"))))) ∷ axiom_at 37 thrice ∷ []))
+
+abbrev nodes_in : Expr → ℕ
+nodes_in x = weight_by doubling doubled axiom_scope x (λ n. 1)
+
+doubles : (at : ℕ) (x : Expr) → nodes_in (e.Apply (name at (codes "f")) (x ∷ [])) ≡ 2 * nodes_in x + 1
+doubles at x =
+    let counts : nodes_in (e.Apply (name at (codes "f")) (x ∷ [])) ≡ 1 + (2 * nodes_in x + 0) = ap (λ (w : Weight). w (λ n. 1)) (weight-apply doubling doubled axiom_scope (name at (codes "f")) (x ∷ [])) in
+    omega (arith, counts)
+
+pub counted : nodes_in thrice ≡ 15
+counted =
+    let one : nodes_in (e.True 49) ≡ 1 = ap (λ (w : Weight). w (λ n. 1)) (weight-true doubling doubled axiom_scope 49) in
+    let once = doubles 47 (e.True 49) in
+    let twice = doubles 45 (e.Apply (name 47 (codes "f")) (e.True 49 ∷ [])) in
+    let whole = doubles 43 (e.Apply (name 45 (codes "f")) (e.Apply (name 47 (codes "f")) (e.True 49 ∷ []) ∷ [])) in
+    omega (arith, one, once, twice, whole)
+
+-- a limit of as many nodes, which is a bound of one more, is no fault
+pub counted_within : heavy_fault 16 doubling doubled axiom_scope thrice ≡ []
+counted_within = ap (λ n. told (nat_le 16 n) (part doubled axiom_scope thrice).at Large) counted
+
+-- one less is
+pub counted_past : heavy_fault 15 doubling doubled axiom_scope thrice ≡ fault (part doubled axiom_scope thrice).at Large ∷ []
+counted_past = ap (λ n. told (nat_le 15 n) (part doubled axiom_scope thrice).at Large) counted

@@ -3,7 +3,7 @@ use Rattle.std.proofs.Common.{◌≡◌, ℕ, zero, suc, ◌+◌, ◌<◌, ◌�
 use Rattle.std.specs.List.{list_any}
 use Rattle.std.specs.Prelude.{nat_eq, if◌then◌else◌}
 use Rattle.std.proofs.lemmas.Bool.Decides.{nat_tests}
-use Rattle.bpl_type.specs.Graphs.{Graph, edges, leads}
+use Rattle.type_pass.specs.Graphs.{Graph, edges, leads}
 use Rattle.bpl_type.proofs.Elements.{any-more, or-more}
 
 -- an edge leads from a to b

@@ -10,7 +10,7 @@ use Rattle.hy_val.specs.declared.operator.BvOp.{BvOp}
 use Rattle.hy_val.specs.declared.operator.BvOp.TheVariants.{Implies}
 use Rattle.hy_val.specs.declared.operator.UnOp.{UnOp}
 use Rattle.hy_val.specs.declared.sort.Sort.{Sort}
-use Rattle.bpl_type.specs.Terms.{Term, lit, read, unary, binary, implied, choice, select, store}
+use Rattle.type_pass.specs.Terms.{Term, lit, read, unary, binary, implied, choice, select, store}
 use Rattle.bpl_type.proofs.TermLaws.{there, binary-none, select-none, if-none, if-nothing, store-none, store-nothing}
 
 -- which variables are known with which sorts

@@ -16,22 +16,22 @@ use Rattle.hy_val.specs.declared.expr.Var.TheVariants.{Const, Global, Local}
 use Rattle.hy_val.specs.declared.sort.Sort.{Sort}
 use Rattle.src_prog.specs.Scope.{is_sort_of, sort_of_variable}
 use Rattle.src_prog.specs.Scope as src
-use Rattle.bpl_type.specs.declared.fault.TypeKind.{TypeKind}
-use Rattle.bpl_type.specs.declared.fault.TypeKind.TheVariants.{Mismatch}
-use Rattle.bpl_type.specs.declared.tables.Builtin.{Builtin}
-use Rattle.bpl_type.specs.declared.tables.Builtin.TheVariants.{Unary, Binary}
-use Rattle.bpl_type.specs.declared.tables.Signature.{Signature}
-use Rattle.bpl_type.specs.declared.tables.Tables.{Tables}
-use Rattle.bpl_type.specs.Commands.{checked_faults, value_faults}
-use Rattle.bpl_type.specs.Declarations.{synonyms, functions}
-use Rattle.bpl_type.specs.ExprSorts.{Part, Checked, is_nothing, part}
-use Rattle.bpl_type.specs.Faults.{told}
-use Rattle.bpl_type.specs.Graphs.{Graph, edges, leads, is_on_circle}
-use Rattle.bpl_type.specs.Meanings.{builtin_strings, builtin_named, operator_if, meaning_of_strings, meaning_without, meaning_of, is_bits, is_result_kind, is_same, width_unless, misfit}
-use Rattle.bpl_type.specs.Passes.{kind_fault, operator_faults, function_faults, uses_if, function_number, use_graph}
-use Rattle.bpl_type.specs.Replaced.{term_by, operated, body_named, body_term, meant, used, use_within}
-use Rattle.bpl_type.specs.Scopes.{tables_of, signature_of, function_scope, function_named}
-use Rattle.bpl_type.specs.Terms.{Term, read, missing, local_term}
+use Rattle.type_pass.specs.declared.fault.TypeKind.{TypeKind}
+use Rattle.type_pass.specs.declared.fault.TypeKind.TheVariants.{Mismatch}
+use Rattle.type_pass.specs.declared.tables.Builtin.{Builtin}
+use Rattle.type_pass.specs.declared.tables.Builtin.TheVariants.{Unary, Binary}
+use Rattle.type_pass.specs.declared.tables.Signature.{Signature}
+use Rattle.type_pass.specs.declared.tables.Tables.{Tables}
+use Rattle.type_pass.specs.Commands.{checked_faults, value_faults}
+use Rattle.type_pass.specs.Declarations.{synonyms, functions}
+use Rattle.type_pass.specs.ExprSorts.{Part, Checked, is_nothing, part}
+use Rattle.type_pass.specs.Faults.{told}
+use Rattle.type_pass.specs.Graphs.{Graph, edges, leads, is_on_circle}
+use Rattle.type_pass.specs.Meanings.{builtin_strings, builtin_named, operator_if, meaning_of_strings, meaning_without, meaning_of, is_bits, is_result_kind, is_same, width_unless, misfit}
+use Rattle.type_pass.specs.Passes.{kind_fault, operator_faults, function_faults, uses_if, function_number, use_graph}
+use Rattle.type_pass.specs.Replaced.{term_by, operated, body_named, body_term, meant, used, use_within}
+use Rattle.type_pass.specs.Scopes.{tables_of, signature_of, function_scope, function_named}
+use Rattle.type_pass.specs.Terms.{Term, read, missing, local_term}
 use Rattle.bpl_type.specs.WellTyped.{sorts_of}
 use Rattle.bpl_type.proofs.Circles.{has_edge, leads-edge, leads-within, leads-further, unseen, unseen-most, unseen-falls, unseen-some}
 use Rattle.bpl_type.proofs.Elements.{all_at, both, some-is, found, find-map, found-map}

@@ -6,9 +6,9 @@ use Rattle.bpl_ast.specs.declared.expr.Bracket.TheOpen.{Bracket-F, Expr-F}
 use Rattle.bpl_ast.specs.declared.expr.Bracket.TheVariants.{rolls-Select, rolls-Store, rolls-Extract}
 use Rattle.bpl_ast.specs.declared.expr.Expr.{Expr, roll-Expr}
 use Rattle.bpl_ast.specs.declared.expr.Expr.TheVariants.{rolls-True, rolls-False, rolls-Literal, rolls-Variable, rolls-Apply, rolls-Post, rolls-Not, rolls-Concat, rolls-Equal, rolls-NotEqual, rolls-And, rolls-Or, rolls-Implies, rolls-ImpliedBy, rolls-Equivalent, rolls-Choice}
-use Rattle.bpl_type.specs.declared.tables.Scope.{Scope}
-use Rattle.bpl_type.specs.declared.tables.Tables.{Tables}
-use Rattle.bpl_type.specs.Replaced.{Use}
+use Rattle.type_pass.specs.declared.tables.Scope.{Scope}
+use Rattle.type_pass.specs.declared.tables.Tables.{Tables}
+use Rattle.type_pass.specs.Replaced.{Use}
 use Rattle.bpl_type.proofs.Fitted.{Known}
 use Rattle.bpl_type.proofs.Preserved.{AreKnown, Preserved, Keeps, AllPreserved, AllKeep, true-is, false-is, literal-is, variable-is, apply-is, not-is, concat-is, and-is, or-is, implied_by-is, equivalent-is, equal-is, not_equal-is, implies-is, choice-is, select-keeps, store-keeps, extract-keeps, post-is}
 

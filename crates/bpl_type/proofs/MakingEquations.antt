@@ -18,19 +18,39 @@ use Rattle.bpl_ast.specs.declared.stmt.Target.{Target}
 use Rattle.hy_val.specs.Exprs.{is_expr}
 use Rattle.hy_val.specs.declared.expr.ExprNode.{ExprNode}
 use Rattle.hy_val.specs.declared.expr.Var.{Var}
-use Rattle.bpl_type.specs.declared.tables.Scope.{Scope}
+use Rattle.type_pass.specs.declared.tables.Scope.{Scope}
 use Rattle.bpl_type.specs.declared.typed.TypedInvariant.{TypedInvariant}
 use Rattle.bpl_type.specs.declared.typed.TypedStmt.{TypedStmt}
 use Rattle.bpl_type.specs.declared.typed.TypedStmt.TheFolds as folds
 use Rattle.bpl_type.specs.declared.typed.TypedStmt.TheVariants as typed
-use Rattle.bpl_type.specs.Declarations.{functions}
-use Rattle.bpl_type.specs.Scopes.{tables_of}
-use Rattle.bpl_type.specs.TypedOf.{else_node, stmt_node, if_node, stmt_of, var_of, pairs_of, body_number, guard_of, invariant_of}
+use Rattle.type_pass.specs.Declarations.{functions}
+use Rattle.type_pass.specs.Scopes.{tables_of, body_number}
+use Rattle.bpl_type.specs.TypedOf.{else_node, stmt_node, if_node, stmt_of, var_of, pairs_of, guard_of, invariant_of}
 use Rattle.bpl_type.specs.WellMade.{guard_is, all_made, is_made, expr_in, stmt_in, if_in, else_in}
 use Rattle.bpl_type.proofs.Elements.{both}
-use Rattle.bpl_type.proofs.StmtEquations.{typed-label, typed-assert, typed-assume, typed-havoc, typed-goto, typed-return, typed-break, typed-assign, typed-call, typed-if, typed-while}
+use Rattle.bpl_type.proofs.TypedForms.{typed-label, typed-assert, typed-assume, typed-havoc, typed-goto, typed-return, typed-break, typed-assign, typed-call, typed-if, typed-while}
 
 -- ---- typed statements
+
+pub made-label : (name : Name) → is_made (typed.Label name) ≡ true
+unfolding is_made
+made-label name = search (rules, folds.the_lemmas)
+
+pub made-havoc : (vars : List Var) → is_made (typed.Havoc vars) ≡ true
+unfolding is_made
+made-havoc vars = search (rules, folds.the_lemmas)
+
+pub made-goto : (labels : List Name) → is_made (typed.Goto labels) ≡ true
+unfolding is_made
+made-goto labels = search (rules, folds.the_lemmas)
+
+pub made-return : is_made typed.Return ≡ true
+unfolding is_made
+made-return = search (rules, folds.the_lemmas)
+
+pub made-break : (at : ℕ) (label : Option Name) → is_made (typed.Break at label) ≡ true
+unfolding is_made
+made-break at label = search (rules, folds.the_lemmas)
 
 pub made-assert : (c : List ExprNode) → is_made (typed.Assert c) ≡ is_expr c
 unfolding is_made
@@ -48,11 +68,11 @@ pub made-call : (proc : ℕ) (args : List (List ExprNode)) (outs : List Var) →
 unfolding is_made
 made-call proc args outs = search (rules, folds.the_lemmas)
 
-made-if : (guard : Option (List ExprNode)) (part other : List TypedStmt) → is_made (typed.If guard part other) ≡ (guard_is guard && (all_made (map is_made part) && all_made (map is_made other)))
+pub made-if : (guard : Option (List ExprNode)) (part other : List TypedStmt) → is_made (typed.If guard part other) ≡ (guard_is guard && (all_made (map is_made part) && all_made (map is_made other)))
 unfolding is_made
 made-if guard part other = search (rules, folds.the_lemmas)
 
-made-while : (guard : Option (List ExprNode)) (invariants : List TypedInvariant) (body : List TypedStmt)
+pub made-while : (guard : Option (List ExprNode)) (invariants : List TypedInvariant) (body : List TypedStmt)
     → is_made (typed.While guard invariants body) ≡ (guard_is guard && (list_all (λ i. is_expr i.condition) invariants && all_made (map is_made body)))
 unfolding is_made
 made-while guard invariants body = search (rules, folds.the_lemmas)

@@ -18,7 +18,7 @@ use Rattle.hy_val.specs.declared.operator.BvOp.TheVariants.{Implies}
 use Rattle.hy_val.specs.declared.operator.UnOp.{UnOp}
 use Rattle.hy_val.specs.declared.sort.Sort.{Sort}
 use Rattle.bpl_type.specs.Making.{with_term, renumbered, term_at, term_next, terms_of, read_back, placed, placed_as}
-use Rattle.bpl_type.specs.Terms.{Term, lit, read, unary, binary, implied, choice, select, store, size, nodes_from, nodes_of, missing, local_term, substituted}
+use Rattle.type_pass.specs.Terms.{Term, lit, read, unary, binary, implied, choice, select, store, size, nodes_from, nodes_of, missing, local_term, substituted}
 use Rattle.bpl_type.proofs.NodeRuns.{Steps, ran, size-some}
 use Rattle.bpl_type.proofs.TermLaws.{length-nodes}
 

@@ -9,7 +9,7 @@ use Rattle.hy_val.specs.declared.operator.BvOp.{BvOp}
 use Rattle.hy_val.specs.declared.operator.BvOp.TheVariants.{Implies}
 use Rattle.hy_val.specs.declared.operator.UnOp.{UnOp}
 use Rattle.hy_val.specs.declared.sort.Sort.{Sort}
-use Rattle.bpl_type.specs.Terms.{Term, lit, read, unary, binary, implied, choice, select, store, size, nodes_from}
+use Rattle.type_pass.specs.Terms.{Term, lit, read, unary, binary, implied, choice, select, store, size, nodes_from}
 
 pub fold-append : {A B : Type 0} (f : B → A → B) (s : B) (xs ys : List A) → fold f s (xs ++ ys) ≡ fold f (fold f s xs) ys
 fold-append f s [] ys = refl

@@ -11,10 +11,10 @@ use Rattle.hy_val.specs.declared.expr.Var.TheVariants.{Const, Global, Local}
 use Rattle.hy_val.specs.declared.sort.Sort.{Sort}
 use Rattle.src_prog.specs.Scope.{sort_of_variable, is_sort_of}
 use Rattle.src_prog.specs.Scope as src
-use Rattle.bpl_type.specs.declared.tables.Scope.{Scope}
-use Rattle.bpl_type.specs.declared.tables.Tables.{Tables}
-use Rattle.bpl_type.specs.declared.typed.Named.{Named}
-use Rattle.bpl_type.specs.Scopes.{seen_as, seen_if, find_name}
+use Rattle.type_pass.specs.declared.tables.Scope.{Scope}
+use Rattle.type_pass.specs.declared.tables.Tables.{Tables}
+use Rattle.type_pass.specs.declared.tables.Named.{Named}
+use Rattle.type_pass.specs.Scopes.{seen_as, seen_if, find_name}
 use Rattle.bpl_type.specs.WellTyped.{sorts_of}
 use Rattle.bpl_type.proofs.Elements.{all_at, and-true, found-map}
 use Rattle.bpl_type.proofs.Preserved.{AreKnown, same_sort-self}

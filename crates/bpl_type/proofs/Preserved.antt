@@ -20,27 +20,27 @@ use Rattle.hy_val.specs.declared.sort.Scalar.{Scalar}
 use Rattle.hy_val.specs.declared.sort.ScalarKind.TheVariants.{Bool as BoolSort, Bv as BvSort}
 use Rattle.hy_val.specs.declared.sort.Sort.{Sort}
 use Rattle.hy_val.specs.declared.sort.SortKind.TheVariants.{Scalar as ScalarSort, Map as MapSort}
-use Rattle.bpl_type.specs.declared.fault.TypeFault.{TypeFault}
-use Rattle.bpl_type.specs.declared.fault.TypeKind.TheVariants.{Mismatch, Width, Arity, LeftOut}
-use Rattle.bpl_type.specs.declared.operand.Operand.{Operand}
-use Rattle.bpl_type.specs.declared.tables.Scope.{Scope}
-use Rattle.bpl_type.specs.declared.tables.Signature.{Signature}
-use Rattle.bpl_type.specs.declared.tables.Tables.{Tables}
-use Rattle.bpl_type.specs.declared.typed.Named.{Named}
-use Rattle.bpl_type.specs.ExprSorts.{Checked, Part, with_sort, with_operand, with_operands, bool_sort, needs, all_bools, chain_of_bools, with_width, joined, joined_after, compared, chosen, with_map, selected, stored, extracted, sort_if, all_fit, is_nothing, applied, refused, part, bracket_part}
-use Rattle.bpl_type.specs.Faults.{fault}
-use Rattle.bpl_type.specs.Replaced.{Use, term_by, bracket_term, read_if}
-use Rattle.bpl_type.specs.Scopes.{find_name, function_named}
-use Rattle.bpl_type.proofs.PartEquations as parts
-use Rattle.bpl_type.proofs.PartEquations.{part-true, part-false, part-literal, part-variable, part-apply, part-post, part-not, part-concat, part-equal, part-not_equal, part-and, part-or, part-implies, part-implied_by, part-equivalent, part-choice}
+use Rattle.type_pass.specs.declared.fault.TypeFault.{TypeFault}
+use Rattle.type_pass.specs.declared.fault.TypeKind.TheVariants.{Mismatch, Width, Arity, LeftOut}
+use Rattle.type_pass.specs.declared.operand.Operand.{Operand}
+use Rattle.type_pass.specs.declared.tables.Scope.{Scope}
+use Rattle.type_pass.specs.declared.tables.Signature.{Signature}
+use Rattle.type_pass.specs.declared.tables.Tables.{Tables}
+use Rattle.type_pass.specs.declared.tables.Named.{Named}
+use Rattle.type_pass.specs.ExprSorts.{Checked, Part, with_sort, with_operand, with_operands, bool_sort, needs, all_bools, chain_of_bools, with_width, joined, joined_after, compared, chosen, with_map, selected, stored, extracted, sort_if, all_fit, is_nothing, applied, refused, part, bracket_part}
+use Rattle.type_pass.specs.Faults.{fault}
+use Rattle.type_pass.specs.Replaced.{Use, term_by, bracket_term, read_if}
+use Rattle.type_pass.specs.Scopes.{find_name, function_named}
+use Rattle.type_pass.proofs.PartEquations as parts
+use Rattle.type_pass.proofs.PartEquations.{part-true, part-false, part-literal, part-variable, part-apply, part-post, part-not, part-concat, part-equal, part-not_equal, part-and, part-or, part-implies, part-implied_by, part-equivalent, part-choice}
 use Rattle.bpl_type.proofs.TermEquations as terms
 use Rattle.bpl_type.proofs.TermEquations.{term-true, term-false, term-literal, term-variable, term-apply, term-post, term-not, term-concat, term-equal, term-not_equal, term-and, term-or, term-implies, term-implied_by, term-equivalent, term-choice}
-use Rattle.bpl_type.specs.Terms.{Term, read, binary, implied, chain}
-use Rattle.bpl_type.specs.Passes.{all_uses, uses}
+use Rattle.type_pass.specs.Terms.{Term, read, binary, implied, chain}
+use Rattle.type_pass.specs.Passes.{all_uses, uses}
 use Rattle.bpl_type.proofs.Elements.{all_split}
 use Rattle.bpl_type.proofs.Fitted.{Known, fitted}
-use Rattle.bpl_type.specs.Uses.{in_bracket}
-use Rattle.bpl_type.proofs.UseEquations.{uses-apply, uses-post, uses-not, uses-concat, uses-equal, uses-not_equal, uses-and, uses-or, uses-implies, uses-implied_by, uses-equivalent, uses-choice, uses-select, uses-store}
+use Rattle.type_pass.specs.Uses.{in_bracket}
+use Rattle.type_pass.proofs.UseEquations.{uses-apply, uses-post, uses-not, uses-concat, uses-equal, uses-not_equal, uses-and, uses-or, uses-implies, uses-implied_by, uses-equivalent, uses-choice, uses-select, uses-store}
 
 -- ---- what an answer says of its parts
 

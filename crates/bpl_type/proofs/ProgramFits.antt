@@ -27,24 +27,24 @@ use Rattle.hy_val.specs.declared.sort.Sort.{Sort as Resolved}
 use Rattle.src_prog.specs.Scope.{is_condition}
 use Rattle.src_prog.specs.Scope as src
 use Rattle.src_prog.specs.Shape.{ascend_from}
-use Rattle.bpl_type.specs.declared.fault.TypeFault.{TypeFault}
-use Rattle.bpl_type.specs.declared.fault.TypeKind.TheVariants.{Arity, Mismatch, Cyclic}
-use Rattle.bpl_type.specs.declared.tables.Heading.{Heading}
-use Rattle.bpl_type.specs.declared.tables.Scope.{Scope}
-use Rattle.bpl_type.specs.declared.tables.Tables.{Tables}
-use Rattle.bpl_type.specs.declared.typed.Named.{Named}
+use Rattle.type_pass.specs.declared.fault.TypeFault.{TypeFault}
+use Rattle.type_pass.specs.declared.fault.TypeKind.TheVariants.{Arity, Mismatch, Cyclic}
+use Rattle.type_pass.specs.declared.tables.Heading.{Heading}
+use Rattle.type_pass.specs.declared.tables.Scope.{Scope}
+use Rattle.type_pass.specs.declared.tables.Tables.{Tables}
+use Rattle.type_pass.specs.declared.tables.Named.{Named}
 use Rattle.bpl_type.specs.declared.typed.Typed.{Typed}
 use Rattle.bpl_type.specs.declared.typed.TypedProc.{TypedProc}
 use Rattle.bpl_type.specs.Checked.{after_names, after_sorts, after_heads, after_commands, after_circles, after_sizes, checked_within}
-use Rattle.bpl_type.specs.Commands.{condition_faults, stmt_faults, differ}
-use Rattle.bpl_type.specs.Declarations.{Declared, declared, synonyms, functions, procedures, implementations, axioms, constants, constant_groups, globals, unique_flags, flags_of, in_constants, in_parameters, in_heads, in_body, function_of, axiom_of, procedure_of, implementation_of}
-use Rattle.bpl_type.specs.Faults.{first, told}
-use Rattle.bpl_type.specs.Graphs.{is_on_circle}
-use Rattle.bpl_type.specs.Meanings.{meaning_of}
-use Rattle.bpl_type.specs.Passes.{twice_faults, sorts_faults, heads_faults, head_faults, commands_faults, command_faults, circle_faults, large_faults, use_graph, function_faults, operator_faults, body_faults, same_sorts, implementation_faults}
-use Rattle.bpl_type.specs.Scopes.{tables_of, signature_of, argument_of, named_of, sort_in, heading_of, is_implemented, axiom_scope, function_scope, procedure_named}
-use Rattle.bpl_type.specs.Scopes as scopes
-use Rattle.bpl_type.specs.TypedOf.{Formed, formed, formed_by, formed_with, formed_proc, proc_of, body_of, body_number, places_from, typed_of, expr_of, stmt_of}
+use Rattle.type_pass.specs.Commands.{condition_faults, stmt_faults, differ}
+use Rattle.type_pass.specs.Declarations.{Declared, declared, synonyms, functions, procedures, implementations, axioms, constants, constant_groups, globals, unique_flags, flags_of, in_constants, in_parameters, in_heads, in_body, function_of, axiom_of, procedure_of, implementation_of}
+use Rattle.type_pass.specs.Faults.{first, told}
+use Rattle.type_pass.specs.Graphs.{is_on_circle}
+use Rattle.type_pass.specs.Meanings.{meaning_of}
+use Rattle.type_pass.specs.Passes.{twice_faults, sorts_faults, heads_faults, head_faults, commands_faults, command_faults, circle_faults, large_faults, use_graph, function_faults, operator_faults, body_faults, same_sorts, implementation_faults}
+use Rattle.type_pass.specs.Scopes.{tables_of, signature_of, argument_of, named_of, sort_in, heading_of, is_implemented, axiom_scope, function_scope, procedure_named, body_number}
+use Rattle.type_pass.specs.Scopes as scopes
+use Rattle.bpl_type.specs.TypedOf.{Formed, formed, formed_by, formed_with, formed_proc, proc_of, body_of, places_from, typed_of, expr_of, stmt_of}
 use Rattle.bpl_type.specs.WellTyped.{sorts_of, have_sorts, constant_scope, body_fits, proc_fits, callees_of, stmt_fits, is_typed}
 use Rattle.bpl_type.specs.WellTyped as well
 use Rattle.bpl_type.proofs.Elements.{both, and-true, some-is, all_flat, all_so, all_at, tests_all, nil-split, all_nil, found, find_passes, find-map, found-map, numbered, position-map, element-at}
@@ -94,7 +94,7 @@ all-found P p xs x all h = let r = found p xs x h in all_at P xs r.place x all r
 
 -- ---- sorts of names
 
-sorts-are : (types : List Synonym) (ds : List Declared) → HaveSorts (map (named_of types) ds)
+pub sorts-are : (types : List Synonym) (ds : List Declared) → HaveSorts (map (named_of types) ds)
 sorts-are types [] = tt
 sorts-are types (d ∷ ds) = (sort-is types d.sort, sorts-are types ds)
 
@@ -143,7 +143,7 @@ flags-counted (c ∷ cs) =
 
 -- ---- what an answer says of the passes
 
-first-none : (faults : List TypeFault) → first faults ≡ None → faults ≡ []
+pub first-none : (faults : List TypeFault) → first faults ≡ None → faults ≡ []
 first-none [] h = refl
 first-none (f ∷ fs) h = absurd (cc)
 
@@ -241,7 +241,7 @@ module _ (ast : Ast) (none : NoFaults ast) where
       let all = all_nil (λ (n : ℕ × Name). told (is_on_circle (use_graph fs) n.0) n.1.at Cyclic) (enumerate_from 0 (map (λ (f : Function). f.name) fs)) none.circles in
       told-false (is_on_circle (use_graph fs) i) x.0.name.at Cyclic (all_at (λ (n : ℕ × Name). told (is_on_circle (use_graph fs) n.0) n.1.at Cyclic ≡ []) (enumerate_from 0 (map (λ (f : Function). f.name) fs)) i (i, x.0.name) all at)
 
-  known-in : (s : Scope) → HaveSorts s.locals → SortsKnown t s
+  pub known-in : (s : Scope) → HaveSorts s.locals → SortsKnown t s
   known-in s h = record { consts = sorts-are types (constants ast); globals = sorts-are types (globals ast); locals = h }
 
   pub sound : FunctionsSound ast
@@ -298,13 +298,13 @@ module _ (ast : Ast) (none : NoFaults ast) where
   abbrev with_body : Procedure → Bool
   with_body p = (heading_of ast p).has_body
 
-  abbrev called : List TypedProc
+  abbrev pub called : List TypedProc
   called = callees_of (map (proc_of ast) ps)
 
   called-is : called ≡ map (proc_of ast) (filter with_body ps)
   called-is = filter-map (λ q. is_some q.body) (proc_of ast) ps ∙ ap (map (proc_of ast)) (filter-same (λ p. is_some (proc_of ast p).body) with_body (λ p. sym (has-body p p.body)) ps)
 
-  calls : CallsFit t called
+  pub calls : CallsFit t called
   calls text h named body =
       let first : Option Procedure = find (λ p. bytes_eq text p.name.text) ps in
       let fm = found-map (heading_of ast) (find (λ p. bytes_eq text p.name.text) ps) h (sym (find-map (λ q. bytes_eq text q.name) (heading_of ast) ps) ∙ named) in
@@ -338,7 +338,7 @@ module _ (ast : Ast) (none : NoFaults ast) where
       and-true (is_condition (constant_scope program) (expr_of t fs axiom_scope a.condition)) (list_all (is_condition (constant_scope program)) (map (λ x. expr_of t fs axiom_scope x.condition) xs))
       (condition-fits ast sound axiom_scope (known-in axiom_scope tt) called calls a.condition h.0) (axioms-fit xs h.1)
 
-  stmts-fit : (s : Scope) → HaveSorts s.locals → (xs : List Stmt) → flat_map (stmt_faults t s) xs ≡ [] → list_all (stmt_fits called (place t s)) (map (stmt_of t fs s) xs) ≡ true
+  pub stmts-fit : (s : Scope) → HaveSorts s.locals → (xs : List Stmt) → flat_map (stmt_faults t s) xs ≡ [] → list_all (stmt_fits called (place t s)) (map (stmt_of t fs s) xs) ≡ true
   stmts-fit s known [] h = refl
   stmts-fit s known (x ∷ xs) h =
       let r = nil-split (stmt_faults t s x) (flat_map (stmt_faults t s) xs) h in
@@ -371,7 +371,7 @@ module _ (ast : Ast) (none : NoFaults ast) where
       (have-sorts types (flat_map in_parameters f.heads.ins)) (have-sorts types (flat_map in_parameters f.heads.outs)))
       (body-of-fits name f.heads f.body h)
 
-  form-faultless : (p : Procedure) (body : Option Body) → body_faults t types p.heads body ≡ [] → body_faults t types (formed_with ast p body).heads (formed_with ast p body).body ≡ []
+  pub form-faultless : (p : Procedure) (body : Option Body) → body_faults t types p.heads body ≡ [] → body_faults t types (formed_with ast p body).heads (formed_with ast p body).body ≡ []
   form-faultless p (Some body) h = h
   form-faultless p None h = by-found (find (implements p.name.text) (implementations ast)) refl
     where

@@ -9,13 +9,13 @@ use Rattle.hy_val.specs.declared.expr.ExprNode.{ExprNode}
 use Rattle.hy_val.specs.declared.expr.Var.{Var}
 use Rattle.hy_val.specs.declared.sort.Sort.{Sort}
 use Rattle.bpl_type.specs.declared.program.Program.{Program}
-use Rattle.bpl_type.specs.declared.tables.Scope.{Scope}
-use Rattle.bpl_type.specs.declared.tables.Tables.{Tables}
-use Rattle.bpl_type.specs.Declarations.{functions}
+use Rattle.type_pass.specs.declared.tables.Scope.{Scope}
+use Rattle.type_pass.specs.declared.tables.Tables.{Tables}
+use Rattle.type_pass.specs.Declarations.{functions}
 use Rattle.bpl_type.specs.Making.{with_term, term_with}
-use Rattle.bpl_type.specs.Replaced.{read_if, term_of}
-use Rattle.bpl_type.specs.Scopes.{tables_of, find_name}
-use Rattle.bpl_type.specs.Terms.{Term, store, nodes_of}
+use Rattle.type_pass.specs.Replaced.{read_if, term_of}
+use Rattle.type_pass.specs.Scopes.{tables_of, find_name}
+use Rattle.type_pass.specs.Terms.{Term, store, nodes_of}
 use Rattle.bpl_type.specs.TypedOf.{assigned, pair_of, pairs_of}
 use Rattle.bpl_type.specs.WellMade.{expr_in}
 use Rattle.bpl_type.proofs.BodyTerms.{term-is}

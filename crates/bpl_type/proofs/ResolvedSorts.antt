@@ -12,9 +12,9 @@ use Rattle.hy_val.specs.Sorts.{is_scalar}
 use Rattle.hy_val.specs.declared.sort.ScalarKind.TheVariants.{Bool as BoolSort, Bv as BvSort}
 use Rattle.hy_val.specs.declared.sort.Sort.{Sort as Resolved}
 use Rattle.hy_val.specs.declared.sort.SortKind.TheVariants.{Scalar as ScalarSort, Map as MapSort}
-use Rattle.bpl_type.specs.Sorts.{type_named, map_sort, resolved_by, named_sort, resolved, sort_of}
+use Rattle.type_pass.specs.Sorts.{type_named, map_sort, resolved_by, named_sort, resolved, sort_of}
 use Rattle.bpl_type.proofs.Elements.{some-is, and-true}
-use Rattle.bpl_type.proofs.SortEquations.{resolved-boolean, resolved-bits, resolved-named, resolved-map}
+use Rattle.type_pass.proofs.SortEquations.{resolved-boolean, resolved-bits, resolved-named, resolved-map}
 
 -- what is there is a sort
 abbrev AreSorts : Option Resolved → Type 0

@@ -26,29 +26,29 @@ use Rattle.hy_val.specs.declared.sort.Sort.{Sort}
 use Rattle.hy_val.specs.declared.sort.SortKind.TheVariants.{Scalar as ScalarSort, Map as MapSort}
 use Rattle.src_prog.specs.Scope.{sort_of_variable, sort_of_target, is_sort_of, are_same, is_target, is_condition, expr_fits, pair_fits, args_fit, targets_fit}
 use Rattle.src_prog.specs.Scope as src
-use Rattle.bpl_type.specs.declared.fault.TypeFault.{TypeFault}
-use Rattle.bpl_type.specs.declared.fault.TypeKind.TheVariants.{Mismatch, NotAssignable, Arity, LeftOut}
+use Rattle.type_pass.specs.declared.fault.TypeFault.{TypeFault}
+use Rattle.type_pass.specs.declared.fault.TypeKind.TheVariants.{Mismatch, NotAssignable, Arity, LeftOut}
 use Rattle.bpl_ast.specs.declared.word.Word.TheVariants.{NoBody}
-use Rattle.bpl_type.specs.declared.tables.Heading.{Heading}
-use Rattle.bpl_type.specs.declared.tables.Scope.{Scope}
-use Rattle.bpl_type.specs.declared.tables.Tables.{Tables}
-use Rattle.bpl_type.specs.declared.typed.Named.{Named}
+use Rattle.type_pass.specs.declared.tables.Heading.{Heading}
+use Rattle.type_pass.specs.declared.tables.Scope.{Scope}
+use Rattle.type_pass.specs.declared.tables.Tables.{Tables}
+use Rattle.type_pass.specs.declared.tables.Named.{Named}
 use Rattle.bpl_type.specs.declared.typed.TypedInvariant.{TypedInvariant}
 use Rattle.bpl_type.specs.declared.typed.TypedProc.{TypedProc}
 use Rattle.bpl_type.specs.declared.typed.TypedStmt.{TypedStmt}
 use Rattle.bpl_type.specs.declared.typed.TypedStmt.TheFolds.{the_lemmas}
 use Rattle.bpl_type.specs.declared.typed.TypedStmt.TheVariants as typed
-use Rattle.bpl_type.specs.Commands as commands
-use Rattle.bpl_type.specs.Commands.{condition_faults, guard_faults, name_faults, seen_faults, target_faults, index_faults, index_of_faults, target_sort, sort_of_target as wanted_sort, element, value_faults, values_faults, outs_faults, taken_faults, called_faults, call_faults, assign_faults, all_faults, stmt_faults, differ}
-use Rattle.bpl_type.specs.Declarations.{functions}
-use Rattle.bpl_type.specs.ExprSorts.{part, bool_sort}
-use Rattle.bpl_type.specs.Faults.{told}
-use Rattle.bpl_type.specs.Names.{repeats}
-use Rattle.bpl_type.specs.Replaced.{read_if, term_of, use_within}
-use Rattle.bpl_type.specs.Scopes.{tables_of, find_name, is_assignable, procedure_named}
-use Rattle.bpl_type.specs.Terms.{store, nodes_of}
+use Rattle.type_pass.specs.Commands as commands
+use Rattle.type_pass.specs.Commands.{condition_faults, guard_faults, name_faults, seen_faults, target_faults, index_faults, index_of_faults, target_sort, sort_of_target as wanted_sort, element, value_faults, values_faults, outs_faults, taken_faults, called_faults, call_faults, assign_faults, all_faults, stmt_faults, if_faults, else_faults, differ}
+use Rattle.type_pass.specs.Declarations.{functions}
+use Rattle.type_pass.specs.ExprSorts.{part, bool_sort}
+use Rattle.type_pass.specs.Faults.{told}
+use Rattle.type_pass.specs.Names.{repeats}
+use Rattle.type_pass.specs.Replaced.{read_if, term_of, use_within}
+use Rattle.type_pass.specs.Scopes.{tables_of, find_name, is_assignable, procedure_named, body_number}
+use Rattle.type_pass.specs.Terms.{store, nodes_of}
 use Rattle.bpl_type.specs.TypedOf as forms
-use Rattle.bpl_type.specs.TypedOf.{expr_of, var_if, var_of, assigned, pair_of, pairs_of, body_number, guard_of, invariant_of, stmt_of}
+use Rattle.bpl_type.specs.TypedOf.{expr_of, var_if, var_of, assigned, pair_of, pairs_of, guard_of, invariant_of, stmt_of}
 use Rattle.bpl_type.specs.WellTyped.{named, sorts_of, guard_fits, invariant_fits, callee_fits, all_fit, stmt_fits}
 use Rattle.bpl_type.proofs.Elements.{and-true, some-is, nil-split}
 use Rattle.bpl_type.proofs.Fitted.{fitted}
@@ -65,11 +65,11 @@ module _ (cs : List TypedProc) (sc : src.Scope) where
   unfolding stmt_fits
   fits-label n = search (rules, the_lemmas)
 
-  fits-assert : (c : List ExprNode) → stmt_fits cs sc (typed.Assert c) ≡ is_condition sc c
+  pub fits-assert : (c : List ExprNode) → stmt_fits cs sc (typed.Assert c) ≡ is_condition sc c
   unfolding stmt_fits
   fits-assert c = search (rules, the_lemmas)
 
-  fits-assume : (c : List ExprNode) → stmt_fits cs sc (typed.Assume c) ≡ is_condition sc c
+  pub fits-assume : (c : List ExprNode) → stmt_fits cs sc (typed.Assume c) ≡ is_condition sc c
   unfolding stmt_fits
   fits-assume c = search (rules, the_lemmas)
 
@@ -89,20 +89,20 @@ module _ (cs : List TypedProc) (sc : src.Scope) where
   unfolding stmt_fits
   fits-break at label = search (rules, the_lemmas)
 
-  fits-assign : (pairs : List (Var × List ExprNode)) → stmt_fits cs sc (typed.Assign pairs) ≡ list_all (pair_fits sc) pairs
+  pub fits-assign : (pairs : List (Var × List ExprNode)) → stmt_fits cs sc (typed.Assign pairs) ≡ list_all (pair_fits sc) pairs
   unfolding stmt_fits
   fits-assign pairs = search (rules, the_lemmas)
 
-  fits-call : (proc : ℕ) (args : List (List ExprNode)) (outs : List Var) → stmt_fits cs sc (typed.Call proc args outs) ≡ callee_fits sc (slice_get cs proc) args outs
+  pub fits-call : (proc : ℕ) (args : List (List ExprNode)) (outs : List Var) → stmt_fits cs sc (typed.Call proc args outs) ≡ callee_fits sc (slice_get cs proc) args outs
   unfolding stmt_fits
   fits-call proc args outs = search (rules, the_lemmas)
 
-  fits-if : (guard : Option (List ExprNode)) (part other : List TypedStmt)
+  pub fits-if : (guard : Option (List ExprNode)) (part other : List TypedStmt)
       → stmt_fits cs sc (typed.If guard part other) ≡ (guard_fits sc guard && (all_fit (map (stmt_fits cs sc) part) && all_fit (map (stmt_fits cs sc) other)))
   unfolding stmt_fits
   fits-if guard part other = search (rules, the_lemmas)
 
-  fits-while : (guard : Option (List ExprNode)) (invariants : List TypedInvariant) (body : List TypedStmt)
+  pub fits-while : (guard : Option (List ExprNode)) (invariants : List TypedInvariant) (body : List TypedStmt)
       → stmt_fits cs sc (typed.While guard invariants body) ≡ (guard_fits sc guard && (list_all (invariant_fits sc) invariants && all_fit (map (stmt_fits cs sc) body)))
   unfolding stmt_fits
   fits-while guard invariants body = search (rules, the_lemmas)
@@ -111,12 +111,6 @@ module _ (cs : List TypedProc) (sc : src.Scope) where
 
 abbrev Faults : Type 0
 Faults = List TypeFault
-
-abbrev else_faults : Tables → Scope → Else → Faults
-else_faults t s = fold-Else Faults Faults Faults commands.else_node (commands.stmt_node t s) (commands.if_node t s)
-
-abbrev if_faults : Tables → Scope → If → Faults
-if_faults t s = fold-If Faults Faults Faults commands.else_node (commands.stmt_node t s) (commands.if_node t s)
 
 abbrev else_of : Tables → List Function → Scope → Else → List TypedStmt
 else_of t fs s = fold-Else (List TypedStmt) TypedStmt TypedStmt forms.else_node (forms.stmt_node t fs s) (forms.if_node t fs s)

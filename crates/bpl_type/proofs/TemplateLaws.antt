@@ -1,5 +1,5 @@
 -- The bodies of functions, made in an order in which those that a body uses come first.
-use Rattle.std.proofs.Common.{◌≡◌, ℕ, zero, suc, ◌+◌, ◌<◌, ◌≤◌, Bool, true, false, ◌||◌, List, [], ◌∷◌, length, get_or, set, take, Option, Some, None, refl, sym, ◌∙◌, ap, subst, arith, length-set, take_all}
+use Rattle.std.proofs.Common.{◌≡◌, ℕ, zero, suc, ◌+◌, ◌<◌, ◌≤◌, Bool, true, false, ◌||◌, List, [], ◌∷◌, length, map, get_or, set, take, Option, Some, None, Bor, refl, sym, ◌∙◌, ap, subst, arith, length-set, take_all}
 use Rattle.std.specs.List.{AllByRecursion, list_any, list_all, slice_get, filter_map}
 use Rattle.std.specs.Option.{option_map}
 use Rattle.std.specs.Prelude.{nat_eq, nat_lt}
@@ -10,27 +10,29 @@ use Rattle.bpl_ast.specs.declared.decl.Ast.{Ast}
 use Rattle.bpl_ast.specs.declared.decl.Function.{Function}
 use Rattle.bpl_ast.specs.declared.expr.Expr.{Expr}
 use Rattle.hy_val.specs.declared.expr.ExprNode.{ExprNode}
-use Rattle.bpl_type.specs.declared.tables.Scope.{Scope}
-use Rattle.bpl_type.specs.declared.tables.Tables.{Tables}
-use Rattle.bpl_type.specs.Declarations.{synonyms, functions}
-use Rattle.bpl_type.specs.Graphs.{Graph, edges, leads, is_on_circle}
+use Rattle.type_pass.specs.declared.tables.Scope.{Scope}
+use Rattle.type_pass.specs.declared.tables.Signature.{Signature}
+use Rattle.type_pass.specs.declared.tables.Tables.{Tables}
+use Rattle.type_pass.specs.Declarations.{synonyms, functions}
+use Rattle.type_pass.specs.Graphs.{Graph, edges, leads, is_on_circle}
 use Rattle.bpl_type.specs.Making.{use_with, term_with, body_of, bodies_of}
-use Rattle.bpl_type.specs.Orders.{is_in, IsOrder}
-use Rattle.bpl_type.specs.Passes.{heads_faults, commands_faults, circle_faults, uses_if, use_graph, function_number}
-use Rattle.bpl_type.specs.Replaced.{Use, term_by, term_of, body_term, use_within}
-use Rattle.bpl_type.specs.Scopes.{tables_of, signature_of, function_scope}
-use Rattle.bpl_type.specs.Terms.{nodes_of}
+use Rattle.type_pass.specs.Orders.{is_in, IsOrder}
+use Rattle.type_pass.specs.Passes.{heads_faults, commands_faults, circle_faults, uses_if, use_graph, function_number}
+use Rattle.type_pass.specs.Replaced.{Use, term_by, term_of, body_term, use_within}
+use Rattle.type_pass.specs.Scopes.{tables_of, signature_of, function_scope}
+use Rattle.bpl_type.specs.Templates.{IsFilled}
+use Rattle.type_pass.specs.Terms.{nodes_of}
 use Rattle.bpl_type.proofs.BodyTerms.{agrees}
-use Rattle.bpl_type.proofs.CircleLaws.{complete-order, in-at}
-use Rattle.bpl_type.proofs.Elements.{element-at}
+use Rattle.type_pass.proofs.CircleLaws.{complete-order, in-at}
+use Rattle.bpl_type.proofs.Elements.{element-at, some-is}
 use Rattle.bpl_type.proofs.FunctionsFit.{FunctionsSound, names-hold, edges-of}
-use Rattle.bpl_type.proofs.MemoLaws.{at-one, follows-at}
-use Rattle.bpl_type.proofs.OrderLaws.{is_in-push}
+use Rattle.type_pass.proofs.MemoLaws.{at-one, follows-at}
+use Rattle.type_pass.proofs.OrderLaws.{is_in-push}
 use Rattle.bpl_type.proofs.ProgramFits.{NoFaults, sound}
 use Rattle.bpl_type.proofs.TermAgreement.{Agree, same-term}
-use Rattle.bpl_type.proofs.UsedNumbers.{uses-closed}
+use Rattle.type_pass.proofs.UsedNumbers.{uses-closed}
 
-flip : (es : List ℕ) (j : ℕ) → list_any (λ c. nat_eq c j) es ≡ true → is_in es j ≡ true
+pub flip : (es : List ℕ) (j : ℕ) → list_any (λ c. nat_eq c j) es ≡ true → is_in es j ≡ true
 flip [] j h = h
 flip (e ∷ es) j h = flipped (nat_eq e j) (nat_eq j e) (list_any (λ c. nat_eq c j) es) (is_in es j) (same e j) (flip es j) h
   where
@@ -51,12 +53,12 @@ past-edges [] i h = refl
 past-edges (e ∷ es) zero h = absurd (omega arith)
 past-edges (e ∷ es) (suc i) h = past-edges es i (omega arith)
 
-set-same : {A : Type 0} (xs : List A) (i : ℕ) (v : A) → i < length xs → slice_get (set xs i v) i ≡ Some v
+pub set-same : {A : Type 0} (xs : List A) (i : ℕ) (v : A) → i < length xs → slice_get (set xs i v) i ≡ Some v
 set-same [] i v h = absurd (omega arith)
 set-same (x ∷ xs) zero v h = refl
 set-same (x ∷ xs) (suc i) v h = set-same xs i v (omega arith)
 
-set-other : {A : Type 0} (xs : List A) (i j : ℕ) (v : A) → nat_eq j i ≡ false → slice_get (set xs i v) j ≡ slice_get xs j
+pub set-other : {A : Type 0} (xs : List A) (i j : ℕ) (v : A) → nat_eq j i ≡ false → slice_get (set xs i v) j ≡ slice_get xs j
 set-other [] i j v h = refl
 set-other (x ∷ xs) zero zero v h = absurd (cc)
 set-other (x ∷ xs) zero (suc j) v h = refl
@@ -141,7 +143,7 @@ module _ (ast : Ast) (heads : heads_faults ast ≡ []) (commands : commands_faul
           let before : is_in (take h order) j ≡ true = or-false (is_in (take h order) j) (sym (in-more j ∙ ap (λ b. is_in (take h order) j || b) same) ∙ seen) in
           set-other bodies n j made same ∙ filled.bodies_at j f before there
 
-  no-circles : (c : ℕ) → is_on_circle (use_graph fs) c ≡ false
+  pub no-circles : (c : ℕ) → is_on_circle (use_graph fs) c ≡ false
   no-circles c = by-size (nat_lt c (length fs)) refl
     where
       counted : length (use_graph fs) ≡ length fs
@@ -173,3 +175,46 @@ node-within fs order is h n less node =
     let sized : length (use_graph fs) ≡ length fs = length-map fs (λ f. filter_map (function_number fs) (uses_if f.body)) in
     let below : get_or order h 0 < length (use_graph fs) = is.nodes (get_or order h 0) (in-at order h less) in
     omega arith
+
+-- one body more takes its place
+pub filled-step : (ast : Ast) → heads_faults ast ≡ [] → commands_faults ast ≡ [] → circle_faults ast ≡ [] → (order : List ℕ) → IsOrder (use_graph (functions ast)) order
+    → (h n : ℕ) (tables : Tables) (found found1 : List (Bor Function)) (old new : List (List ExprNode)) → tables ≡ tables_of ast → found1 ≡ found → map (λ f. f.now) found ≡ functions ast → h < length order → n ≡ get_or order h 0
+    → IsFilled tables (map (λ f. f.now) found1) n old new → Filled ast (take h order) old → Filled ast (take (h + 1) order) new
+filled-step ast heads commands circles order is h n tables found found1 old new known same listed less node step filled =
+    let fs = functions ast in
+    let g = element-at fs n (node-within fs order is h n less node) in
+    let functions-are : map (λ f. f.now) found1 ≡ fs = ap (λ (v : List (Bor Function)). map (λ f. f.now) v) same ∙ listed in
+    let here : slice_get (map (λ f. f.now) found1) n ≡ Some g.0 = ap (λ (v : List Function). slice_get v n) functions-are ∙ g.1 in
+    let signed : slice_get tables.functions n ≡ Some (signature_of (synonyms ast) g.0) =
+    ap (λ (k : Tables). slice_get k.functions n) known ∙ slice_get-map (signature_of (synonyms ast)) fs n ∙ ap (option_map (signature_of (synonyms ast))) g.1 in
+    let made = nodes_of (body_term (term_with (tables_of ast) old (function_scope (signature_of (synonyms ast) g.0))) g.0.body) in
+    let new-is : new ≡ set old n made =
+    step g.0 (signature_of (synonyms ast) g.0) here signed
+    ∙ ap (λ (k : Tables). set old n (nodes_of (body_term (term_with k old (function_scope (signature_of (synonyms ast) g.0))) g.0.body))) known in
+    subst (Filled ast (take (h + 1) order)) (sym new-is) (filled-more ast heads commands circles order is h old n g.0 made less node filled g.1 refl)
+
+-- no body is there yet
+pub filled-first : (ast : Ast) (found : List (Bor Function)) (n : ℕ) (bodies : List (List ExprNode)) → map (λ f. f.now) found ≡ functions ast → n ≡ length found → length bodies ≡ n → Filled ast [] bodies
+filled-first ast found n bodies listed size made =
+    filled-none ast bodies (made ∙ size ∙ sym (length-map found (λ (f : Bor Function). f.now)) ∙ ap length listed)
+
+-- ---- one body
+
+pub fill-none : (tables : Tables) (found : List (Bor Function)) (n : ℕ) (old new : List (List ExprNode)) → slice_get found n ≡ None → IsFilled tables (map (λ f. f.now) found) n old new
+fill-none tables found n old new none = λ f s here signed.
+    let past : None ≡ Some f = sym (slice_get-map (λ (g : Bor Function). g.now) found n ∙ ap (option_map (λ (g : Bor Function). g.now)) none) ∙ here in
+    absurd (cc)
+
+pub fill-unsigned : (tables : Tables) (fs : List Function) (n : ℕ) (old new : List (List ExprNode)) → slice_get tables.functions n ≡ None → IsFilled tables fs n old new
+fill-unsigned tables fs n old new none = λ f s here signed. absurd (cc)
+
+pub fill-some : (tables : Tables) (found : List (Bor Function)) (n : ℕ) (old bodies new : List (List ExprNode)) (g : Bor Function) (sig : Signature) (made : List ExprNode) → slice_get found n ≡ Some g → slice_get tables.functions n ≡ Some sig → bodies ≡ old
+    → made ≡ nodes_of (body_term (term_with tables bodies (function_scope sig)) g.now.body) → new ≡ set old n made → IsFilled tables (map (λ f. f.now) found) n old new
+fill-some tables found n old bodies new g sig made there signed same written placed = λ f s here known.
+    let function : g.now ≡ f = some-is g.now f (sym (slice_get-map (λ (h : Bor Function). h.now) found n ∙ ap (option_map (λ (h : Bor Function). h.now)) there) ∙ here) in
+    let signature : sig ≡ s = some-is sig s (sym signed ∙ known) in
+    placed
+    ∙ ap (set old n)
+    (written ∙ ap (λ bs. nodes_of (body_term (term_with tables bs (function_scope sig)) g.now.body)) same
+    ∙ ap (λ (h : Function). nodes_of (body_term (term_with tables old (function_scope sig)) h.body)) function
+    ∙ ap (λ (h : Signature). nodes_of (body_term (term_with tables old (function_scope h)) f.body)) signature)

@@ -7,15 +7,15 @@ use Rattle.bpl_ast.specs.declared.expr.Bracket.TheOpen.{Bracket-F, Expr-F}
 use Rattle.bpl_ast.specs.declared.expr.Expr.{Expr, roll-Expr}
 use Rattle.hy_val.specs.declared.operator.BvOp.TheVariants.{And, Or, Implies, Iff, Eq, Ne, Concat}
 use Rattle.hy_val.specs.declared.operator.UnOp.TheVariants.{Not}
-use Rattle.bpl_type.specs.declared.tables.Scope.{Scope}
-use Rattle.bpl_type.specs.declared.tables.Tables.{Tables}
-use Rattle.bpl_type.specs.Passes.{all_uses, uses, bracket_uses, expr_uses}
-use Rattle.bpl_type.specs.Replaced.{Use, term_by, bracket_term, bracket_node, term_node}
-use Rattle.bpl_type.specs.Terms.{Term, unary, binary, implied, choice, select, store, chain}
+use Rattle.type_pass.specs.declared.tables.Scope.{Scope}
+use Rattle.type_pass.specs.declared.tables.Tables.{Tables}
+use Rattle.type_pass.specs.Passes.{all_uses, uses, bracket_uses, expr_uses}
+use Rattle.type_pass.specs.Replaced.{Use, term_by, bracket_term, bracket_node, term_node}
+use Rattle.type_pass.specs.Terms.{Term, unary, binary, implied, choice, select, store, chain}
 use Rattle.bpl_type.proofs.Elements.{all_split}
-use Rattle.bpl_type.specs.Uses.{in_bracket}
+use Rattle.type_pass.specs.Uses.{in_bracket}
 
-abbrev Names : Type 0
+abbrev pub Names : Type 0
 Names = List (List ℕ)
 
 pub term-roll : (u : Use) (t : Tables) (s : Scope) (d : Expr-F Bracket Expr) → term_by u t s (roll-Expr d) ≡ term_node u t s (map-Expr Bracket Expr (Term → Term) Term (bracket_term u t s) (term_by u t s) d)
@@ -26,11 +26,11 @@ pub bracket-roll : (u : Use) (t : Tables) (s : Scope) (d : Bracket-F Bracket Exp
 unfolding term_by bracket_term
 bracket-roll u t s d = fold-roll-Bracket (Term → Term) Term bracket_node (term_node u t s) d
 
-uses-roll : (d : Expr-F Bracket Expr) → uses (roll-Expr d) ≡ expr_uses (map-Expr Bracket Expr Names Names in_bracket uses d)
+pub uses-roll : (d : Expr-F Bracket Expr) → uses (roll-Expr d) ≡ expr_uses (map-Expr Bracket Expr Names Names in_bracket uses d)
 unfolding uses in_bracket
 uses-roll d = fold-roll-Expr Names Names bracket_uses expr_uses d
 
-bracket-uses-roll : (d : Bracket-F Bracket Expr) → in_bracket (roll-Bracket d) ≡ bracket_uses (map-Bracket Bracket Expr Names Names in_bracket uses d)
+pub bracket-uses-roll : (d : Bracket-F Bracket Expr) → in_bracket (roll-Bracket d) ≡ bracket_uses (map-Bracket Bracket Expr Names Names in_bracket uses d)
 unfolding uses in_bracket
 bracket-uses-roll d = fold-roll-Bracket Names Names bracket_uses expr_uses d
 

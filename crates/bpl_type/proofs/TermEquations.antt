@@ -7,10 +7,10 @@ use Rattle.bpl_ast.specs.declared.expr.Bracket.TheVariants as brackets
 use Rattle.bpl_ast.specs.declared.expr.Expr.{Expr}
 use Rattle.bpl_ast.specs.declared.expr.Expr.TheVariants as e
 use Rattle.bpl_ast.specs.declared.name.Name.{Name}
-use Rattle.bpl_type.specs.declared.tables.Scope.{Scope}
-use Rattle.bpl_type.specs.declared.tables.Tables.{Tables}
-use Rattle.bpl_type.specs.Replaced.{Use, term_by, bracket_term, bracket_node, term_node}
-use Rattle.bpl_type.specs.Terms.{Term}
+use Rattle.type_pass.specs.declared.tables.Scope.{Scope}
+use Rattle.type_pass.specs.declared.tables.Tables.{Tables}
+use Rattle.type_pass.specs.Replaced.{Use, term_by, bracket_term, bracket_node, term_node}
+use Rattle.type_pass.specs.Terms.{Term}
 
 pub term-true : (u : Use) (t : Tables) (s : Scope) (at : ℕ) → term_by u t s (e.True at) ≡ term_node u t s (Expr-F.True at)
 unfolding term_by bracket_term

@@ -13,7 +13,7 @@ use Rattle.hy_val.specs.declared.sort.ScalarKind.TheVariants.{Bool as BoolSort, 
 use Rattle.hy_val.specs.declared.sort.Sort.{Sort}
 use Rattle.hy_val.specs.declared.sort.SortKind.TheVariants.{Scalar as ScalarSort, Map as MapSort}
 use Rattle.bpl_type.specs.Laws.{expr_sort, AreNodesOf}
-use Rattle.bpl_type.specs.Terms.{Term, lit, read, unary, binary, implied, choice, select, store, size, nodes_from, nodes_of, term_sort}
+use Rattle.type_pass.specs.Terms.{Term, lit, read, unary, binary, implied, choice, select, store, size, nodes_from, nodes_of, term_sort}
 
 -- ---- lengths
 

@@ -8,13 +8,13 @@ use Rattle.std.proofs.lemmas.Option.{slice_get_within}
 use Rattle.bpl_ast.specs.declared.decl.Ast.{Ast}
 use Rattle.bpl_ast.specs.declared.decl.Function.{Function}
 use Rattle.bpl_ast.specs.declared.expr.Expr.{Expr}
-use Rattle.bpl_type.specs.declared.tables.Scope.{Scope}
-use Rattle.bpl_type.specs.declared.tables.Tables.{Tables}
-use Rattle.bpl_type.specs.Graphs.{leads}
-use Rattle.bpl_type.specs.Passes.{uses_if, function_number}
-use Rattle.bpl_type.specs.Replaced.{Use, term_by, term_of, body_named, body_term, meant, used, use_within}
-use Rattle.bpl_type.specs.Scopes.{function_scope, function_named}
-use Rattle.bpl_type.specs.Terms.{Term, missing}
+use Rattle.type_pass.specs.declared.tables.Scope.{Scope}
+use Rattle.type_pass.specs.declared.tables.Tables.{Tables}
+use Rattle.type_pass.specs.Graphs.{leads}
+use Rattle.type_pass.specs.Passes.{uses_if, function_number}
+use Rattle.type_pass.specs.Replaced.{Use, term_by, term_of, body_named, body_term, meant, used, use_within}
+use Rattle.type_pass.specs.Scopes.{function_scope, function_named}
+use Rattle.type_pass.specs.Terms.{Term, missing}
 use Rattle.bpl_type.proofs.Circles.{has_edge, leads-edge, leads-further, unseen, unseen-most, unseen-falls, unseen-some}
 use Rattle.bpl_type.proofs.Elements.{found, find-map}
 use Rattle.bpl_type.proofs.FunctionsFit.{FunctionsSound, t, fs, sig, named, graph, names-hold, edges-of, no-way}

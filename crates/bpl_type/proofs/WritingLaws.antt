@@ -2,13 +2,13 @@
 use Rattle.std.proofs.Common.{◌≡◌, ℕ, ◌+◌, ◌<◌, List, [], ◌∷◌, ◌++◌, length, map, fold, get_or, take, Some, refl, sym, ◌∙◌, ap}
 use Rattle.std.proofs.lemmas.List.{map-append, take_more}
 use Rattle.hy_val.specs.declared.expr.ExprNode.{ExprNode}
-use Rattle.bpl_type.specs.declared.tables.Meaning.TheVariants as means
-use Rattle.bpl_type.specs.declared.tables.Signature.{Signature}
-use Rattle.bpl_type.specs.declared.tables.Tables.{Tables}
+use Rattle.type_pass.specs.declared.tables.Meaning.TheVariants as means
+use Rattle.type_pass.specs.declared.tables.Signature.{Signature}
+use Rattle.type_pass.specs.declared.tables.Tables.{Tables}
 use Rattle.bpl_type.specs.Making.{with_term, read_back, body_nodes, use_with}
-use Rattle.bpl_type.specs.Replaced.{used, meant}
-use Rattle.bpl_type.specs.Scopes.{function_named}
-use Rattle.bpl_type.specs.Terms.{Term, nodes_of, substituted}
+use Rattle.type_pass.specs.Replaced.{used, meant}
+use Rattle.type_pass.specs.Scopes.{function_named}
+use Rattle.type_pass.specs.Terms.{Term, nodes_of, substituted}
 use Rattle.bpl_type.proofs.MakingLaws.{reads-back, with-nothing}
 
 pub made-is : (before out : List ExprNode) (t : Term) → before ≡ [] → out ≡ with_term before t → out ≡ nodes_of t

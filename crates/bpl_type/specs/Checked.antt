@@ -3,10 +3,10 @@ use Rattle.std.specs.Prelude.{◌≡◌, ℕ, Option, None, Some, Result, Ok, Er
 use Rattle.hy_text.specs.declared.refusal.Or.{Or}
 use Rattle.hy_text.specs.declared.refusal.Or.TheVariants as ors
 use Rattle.bpl_ast.specs.declared.decl.Ast.{Ast}
-use Rattle.bpl_type.specs.declared.fault.TypeFault.{TypeFault}
+use Rattle.type_pass.specs.declared.fault.TypeFault.{TypeFault}
 use Rattle.bpl_type.specs.declared.typed.Typed.{Typed}
-use Rattle.bpl_type.specs.Faults.{first}
-use Rattle.bpl_type.specs.Passes.{twice_faults, sorts_faults, heads_faults, commands_faults, circle_faults, large_faults}
+use Rattle.type_pass.specs.Faults.{first}
+use Rattle.type_pass.specs.Passes.{twice_faults, sorts_faults, heads_faults, commands_faults, circle_faults, large_faults}
 use Rattle.bpl_type.specs.TypedOf.{typed_of}
 
 -- the greatest number of nodes of an expression once functions are replaced
@@ -49,8 +49,3 @@ abbrev pub Gives : Result Typed (Or TypeFault) → Result Typed TypeFault → Ty
 Gives (Ok program) check = check ≡ Ok program
 Gives (Err (ors.Fault f)) check = check ≡ Err f
 Gives (Err ors.NoMemory) check = Unit {0}
-
--- the fault that checking tells, whatever the limit; or that the sizes of expressions decide
-abbrev pub TellsBeforeSizes : Ast → Option TypeFault → Type 0
-TellsBeforeSizes ast None = (limit : ℕ) → checked_within limit ast ≡ after_sizes ast (first (large_faults limit ast))
-TellsBeforeSizes ast (Some f) = (limit : ℕ) → checked_within limit ast ≡ Err f

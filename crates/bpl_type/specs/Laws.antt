@@ -8,7 +8,7 @@ use Rattle.bpl_ast.specs.declared.decl.Ast.{Ast}
 use Rattle.bpl_type.specs.declared.typed.Typed.{Typed}
 use Rattle.bpl_type.specs.Checked.{checked_within}
 use Rattle.bpl_type.specs.WellTyped.{is_typed}
-use Rattle.bpl_type.specs.Terms.{Term, size, nodes_of, term_sort}
+use Rattle.type_pass.specs.Terms.{Term, size, nodes_of, term_sort}
 
 -- the sort of an expression, which is that of its last node
 abbrev pub expr_sort : List ExprNode → Option Sort

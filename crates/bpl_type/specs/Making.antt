@@ -10,12 +10,12 @@ use Rattle.bpl_ast.specs.declared.expr.Expr.{Expr}
 use Rattle.hy_val.specs.declared.expr.Var.TheVariants.{Local}
 use Rattle.bpl_type.specs.declared.nodes.Join.{Join}
 use Rattle.bpl_type.specs.declared.nodes.Join.TheVariants.{Plain, Swapped}
-use Rattle.bpl_type.specs.declared.tables.Scope.{Scope}
-use Rattle.bpl_type.specs.declared.tables.Tables.{Tables}
-use Rattle.bpl_type.specs.Declarations.{synonyms, functions}
-use Rattle.bpl_type.specs.Replaced.{Use, used, term_by, term_of, body_term}
-use Rattle.bpl_type.specs.Scopes.{tables_of, signature_of, function_scope, function_named}
-use Rattle.bpl_type.specs.Terms.{Term, lit, read, unary, binary, implied, choice, select, store, nodes_from, nodes_of, missing}
+use Rattle.type_pass.specs.declared.tables.Scope.{Scope}
+use Rattle.type_pass.specs.declared.tables.Tables.{Tables}
+use Rattle.type_pass.specs.Declarations.{synonyms, functions}
+use Rattle.type_pass.specs.Replaced.{Use, used, term_by, term_of, body_term}
+use Rattle.type_pass.specs.Scopes.{tables_of, signature_of, function_scope, function_named}
+use Rattle.type_pass.specs.Terms.{Term, lit, read, unary, binary, implied, choice, select, store, nodes_from, nodes_of, missing}
 
 -- the nodes with those of a term behind them
 unfoldable pub with_term : List ExprNode → Term → List ExprNode

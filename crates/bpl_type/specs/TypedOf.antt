@@ -1,5 +1,5 @@
 -- The typed program of a tree that has no fault.
-use Rattle.std.specs.Prelude.{ℕ, ◌+◌, Bool, true, false, List, [], ◌∷◌, map, flat_map, filter, find, position, unwrap_or, Option, None, Some, option_map}
+use Rattle.std.specs.Prelude.{ℕ, ◌+◌, Bool, true, false, List, [], ◌∷◌, map, flat_map, find, Option, None, Some, option_map}
 use Rattle.std.specs.Str.{bytes_eq}
 use Rattle.bpl_ast.specs.declared.decl.Ast.{Ast}
 use Rattle.bpl_ast.specs.declared.decl.Body.{Body}
@@ -20,18 +20,18 @@ use Rattle.hy_val.specs.declared.expr.ExprNode.{ExprNode}
 use Rattle.hy_val.specs.declared.expr.Var.{Var}
 use Rattle.hy_val.specs.declared.expr.Var.TheVariants.{Local}
 use Rattle.hy_val.specs.declared.sort.Sort.{Sort}
-use Rattle.bpl_type.specs.declared.tables.Scope.{Scope}
-use Rattle.bpl_type.specs.declared.tables.Tables.{Tables}
+use Rattle.type_pass.specs.declared.tables.Scope.{Scope}
+use Rattle.type_pass.specs.declared.tables.Tables.{Tables}
 use Rattle.bpl_type.specs.declared.typed.Typed.{Typed}
 use Rattle.bpl_type.specs.declared.typed.TypedBody.{TypedBody}
 use Rattle.bpl_type.specs.declared.typed.TypedInvariant.{TypedInvariant}
 use Rattle.bpl_type.specs.declared.typed.TypedProc.{TypedProc}
 use Rattle.bpl_type.specs.declared.typed.TypedStmt.{TypedStmt}
 use Rattle.bpl_type.specs.declared.typed.TypedStmt.TheVariants as typed
-use Rattle.bpl_type.specs.Declarations.{synonyms, functions, procedures, implementations, axioms, unique_flags, in_parameters, in_body}
-use Rattle.bpl_type.specs.Replaced.{read_if, term_of}
-use Rattle.bpl_type.specs.Scopes.{tables_of, named_of, axiom_scope, body_scope, find_name}
-use Rattle.bpl_type.specs.Terms.{Term, store, nodes_of}
+use Rattle.type_pass.specs.Declarations.{synonyms, functions, procedures, implementations, axioms, unique_flags, in_parameters, in_body}
+use Rattle.type_pass.specs.Replaced.{read_if, term_of}
+use Rattle.type_pass.specs.Scopes.{tables_of, named_of, axiom_scope, body_scope, find_name, body_number}
+use Rattle.type_pass.specs.Terms.{Term, store, nodes_of}
 
 -- ---- expressions and names
 
@@ -59,10 +59,6 @@ abbrev pub pairs_of : Tables → List Function → Scope → List Target → Lis
 pairs_of tables fs scope [] values = []
 pairs_of tables fs scope (t ∷ ts) [] = []
 pairs_of tables fs scope (t ∷ ts) (v ∷ vs) = pair_of tables fs scope t v ∷ pairs_of tables fs scope ts vs
-
--- the number of a procedure among those with a body
-abbrev pub body_number : Tables → List ℕ → ℕ
-body_number tables text = unwrap_or (position (λ p. bytes_eq text p.name) (filter (λ p. p.has_body) tables.procedures)) 0
 
 -- ---- statements
 

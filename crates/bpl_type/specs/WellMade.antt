@@ -9,12 +9,12 @@ use Rattle.bpl_ast.specs.declared.stmt.If.{If}
 use Rattle.bpl_ast.specs.declared.stmt.Stmt.{Stmt}
 use Rattle.hy_val.specs.Exprs.{is_expr}
 use Rattle.hy_val.specs.declared.expr.ExprNode.{ExprNode}
-use Rattle.bpl_type.specs.declared.tables.Scope.{Scope}
+use Rattle.type_pass.specs.declared.tables.Scope.{Scope}
 use Rattle.bpl_type.specs.declared.typed.TypedStmt.{TypedStmt}
 use Rattle.bpl_type.specs.declared.typed.TypedStmt.TheFolds.{fold-TypedStmt}
 use Rattle.bpl_type.specs.declared.typed.TypedStmt.TheOpen.{TypedStmt-F}
-use Rattle.bpl_type.specs.Declarations.{functions}
-use Rattle.bpl_type.specs.Scopes.{tables_of}
+use Rattle.type_pass.specs.Declarations.{functions}
+use Rattle.type_pass.specs.Scopes.{tables_of}
 use Rattle.bpl_type.specs.TypedOf.{expr_of, stmt_of, else_node, stmt_node, if_node}
 
 abbrev pub guard_is : Option (List ExprNode) → Bool

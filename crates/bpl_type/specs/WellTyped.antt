@@ -1,7 +1,7 @@
 -- What a typed program keeps: its numbers name what is there, and its expressions have the sorts that their places ask for.
 use Rattle.std.specs.Prelude.{◌&&◌, Bool, true, false, nat_lt, List, [], ◌++◌, length, map, filter, slice_get, Option, None, Some, is_some}
 use Rattle.std.specs.List.{list_all}
-use Rattle.bpl_type.specs.declared.typed.Named.{Named as TypedName}
+use Rattle.type_pass.specs.declared.tables.Named.{Named as TypedName}
 use Rattle.bpl_type.specs.declared.typed.Typed.{Typed}
 use Rattle.bpl_type.specs.declared.typed.TypedBody.{TypedBody}
 use Rattle.bpl_type.specs.declared.typed.TypedInvariant.{TypedInvariant}

@@ -3,18 +3,18 @@
 ghost use Rattle.std.specs.Prelude.{◌≡◌, map, flat_map, IfOk, IsTrue};
 ghost use Rattle.std.specs.List.{list_all};
 ghost use Rattle.hy_val.specs.Exprs.{is_expr};
-ghost use Rattle.bpl_type.specs.Declarations.{functions};
-ghost use Rattle.bpl_type.specs.Scopes.{tables_of};
+ghost use Rattle.type_pass.specs.Declarations.{functions};
+ghost use Rattle.type_pass.specs.Scopes.{tables_of};
 ghost use Rattle.bpl_type.specs.TypedOf.{guard_of, invariant_of};
 ghost use Rattle.bpl_type.specs.WellMade.{guard_is, all_made, is_made, stmt_in, if_in, else_in};
 
-use crate::known::Locals;
 use crate::program::{Program, expression, expressions, pairs, variables};
 use crate::typed::{TypedInvariant, TypedStmt};
 use bpl_ast::{Else, Guard, If, Invariant, Name, Stmt};
 use hy_val::Expr as Nodes;
 use sqlite_items::Items;
 use std::alloc::{AllocError, Global};
+use type_pass::known::Locals;
 
 // ---- names
 

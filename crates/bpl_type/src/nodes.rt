@@ -6,8 +6,8 @@ ghost use Rattle.hy_val.specs.Operators.{bits_atom};
 ghost use Rattle.hy_val.specs.declared.expr.ExprNode.{ExprNode as Node};
 ghost use Rattle.hy_val.specs.declared.expr.Var.{Var as Variable};
 ghost use Rattle.bpl_type.specs.Making.{with_term, renumbered, read_back, argument_for, placed, join_term};
-ghost use Rattle.bpl_type.specs.Replaced.{read_if};
-ghost use Rattle.bpl_type.specs.Terms.{Term, lit, unary, choice, select, store, missing, nodes_of, substituted};
+ghost use Rattle.type_pass.specs.Replaced.{read_if};
+ghost use Rattle.type_pass.specs.Terms.{Term, lit, unary, choice, select, store, missing, nodes_of, substituted};
 
 use hy_val::{Atom, BitVec, BvOp, ExprNode, Sort, UnOp, Var, Width};
 use sqlite_items::{Items, at};
@@ -27,7 +27,7 @@ impl Model for Made {
     ghost Value = { List ExprNode };
 
     ghost use Rattle.bpl_type.specs.Making.{read_back};
-    ghost use Rattle.bpl_type.specs.Terms.{nodes_of};
+    ghost use Rattle.type_pass.specs.Terms.{nodes_of};
 
     ghost view = { λ m. m.nodes };
 

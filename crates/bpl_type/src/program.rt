@@ -3,22 +3,22 @@
 ghost use Rattle.std.specs.Prelude.{◌≡◌, [], map, option_map, Some, IfOk, IsTrue};
 ghost use Rattle.std.specs.List.{list_all};
 ghost use Rattle.hy_val.specs.Exprs.{is_expr};
-ghost use Rattle.bpl_type.specs.Declarations.{functions};
+ghost use Rattle.type_pass.specs.Declarations.{functions};
 ghost use Rattle.bpl_type.specs.Making.{bodies_of};
-ghost use Rattle.bpl_type.specs.Passes.{heads_faults, commands_faults, circle_faults};
-ghost use Rattle.bpl_type.specs.Replaced.{term_of};
-ghost use Rattle.bpl_type.specs.Scopes.{tables_of, find_name};
-ghost use Rattle.bpl_type.specs.Terms.{nodes_of};
+ghost use Rattle.type_pass.specs.Passes.{heads_faults, commands_faults, circle_faults};
+ghost use Rattle.type_pass.specs.Replaced.{term_of};
+ghost use Rattle.type_pass.specs.Scopes.{tables_of, find_name};
+ghost use Rattle.type_pass.specs.Terms.{nodes_of};
 ghost use Rattle.bpl_type.specs.TypedOf.{var_of, assigned, pairs_of};
 ghost use Rattle.bpl_type.specs.WellMade.{expr_in};
 
-use crate::known::{Known, Locals};
 use crate::nodes::{Made, last, push_read, push_store};
 use crate::writing::{Place, write};
 use bpl_ast::{Ast, Expr, Name, Target};
 use hy_val::Var;
 use sqlite_items::{Items, at};
 use std::alloc::{AllocError, Global};
+use type_pass::known::{Known, Locals};
 
 /// A program without faults, with its names and the bodies of its functions.
 #[derive(Drop)]

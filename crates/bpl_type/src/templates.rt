@@ -1,19 +1,22 @@
 //! The bodies of functions as lists of nodes.
 
-ghost use Rattle.std.specs.Prelude.{◌≡◌, map, length, IfOk};
-ghost use Rattle.bpl_type.specs.Declarations.{functions};
-ghost use Rattle.bpl_type.specs.Making.{term_with};
-ghost use Rattle.bpl_type.specs.Replaced.{body_term};
-ghost use Rattle.bpl_type.specs.Scopes.{function_scope};
-ghost use Rattle.bpl_type.specs.Terms.{missing, nodes_of};
+ghost use Rattle.std.specs.Prelude.{◌≡◌, ◌<◌, [], map, length, IfOk, OnOk};
+ghost use Rattle.type_pass.specs.Declarations.{functions};
+ghost use Rattle.bpl_type.specs.Making.{term_with, bodies_of};
+ghost use Rattle.type_pass.specs.Orders.{IsOrder};
+ghost use Rattle.type_pass.specs.Passes.{heads_faults, commands_faults, circle_faults, use_graph};
+ghost use Rattle.type_pass.specs.Replaced.{body_term};
+ghost use Rattle.type_pass.specs.Scopes.{function_scope, tables_of};
+ghost use Rattle.bpl_type.specs.Templates.{IsFilled};
+ghost use Rattle.type_pass.specs.Terms.{missing, nodes_of};
 
-use crate::known::{Known, Locals};
 use crate::nodes::{Made, push_missing};
-use crate::tables::Signature;
 use crate::writing::{Place, write};
 use bpl_ast::{Ast, Decl, Expr, Function};
-use sqlite_items::Items;
+use sqlite_items::{Items, at};
 use std::alloc::{AllocError, Global};
+use type_pass::known::{Known, Locals};
+use type_pass::tables::Signature;
 
 /// The functions, in the order of their declarations.
 pub fn functions_of<'a>(alloc: Global, ast: &'a Ast) -> Result<Vec<&'a Function>, AllocError>
@@ -84,4 +87,49 @@ pub fn body_of_function(
         None => missing_body(alloc),
         Some(body) => written(alloc, known, bodies, signature, body),
     }
+}
+
+// The body of the function of a number takes its place.
+fn fill(
+    alloc: Global,
+    known: &Known,
+    functions: &[&Function],
+    bodies: &mut Items<Made>,
+    number: usize,
+) -> Result<(), AllocError>
+    requires { number < length bodies.old }
+    ensures { OnOk result (IsFilled known.now (map (λ f. f.now) functions.now) number bodies.old bodies.new) }
+{
+    let Some(function) = at(functions, number) else {
+        return Ok(());
+    };
+    let Some(signature) = at(known.functions(), number) else {
+        return Ok(());
+    };
+    let made = body_of_function(alloc, known, bodies.as_slice(), signature, *function)?;
+    bodies.set(number, made);
+    Ok(())
+}
+
+/// The bodies of the functions of a program without faults, in the order of their declarations. They
+/// are made in an order of the graph of uses, so that each use meets a body that is there.
+pub fn bodies(
+    alloc: Global,
+    known: &Known,
+    ast: &Ast,
+    order: &[usize],
+) -> Result<Items<Made>, AllocError>
+    requires known { known.now ≡ tables_of ast.now }
+    requires order { IsOrder (use_graph (functions ast.now)) order.now }
+    requires heads { heads_faults ast.now ≡ [] }
+    requires commands { commands_faults ast.now ≡ [] }
+    requires circles { circle_faults ast.now ≡ [] }
+    ensures { IfOk result (λ bodies. bodies ≡ bodies_of ast.now) }
+{
+    let functions = functions_of(alloc, ast)?;
+    let mut bodies = missing_bodies(alloc, functions.len())?;
+    for number in order {
+        fill(alloc, known, functions.as_slice(), &mut bodies, *number)?;
+    }
+    Ok(bodies)
 }

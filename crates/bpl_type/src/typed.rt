@@ -1,17 +1,9 @@
 //! Typed programs.
 
 use bpl_ast::Name;
-use hy_val::{Expr, Sort, Var};
+use hy_val::{Expr, Var};
 use sqlite_items::Items;
-
-/// A declared name with its sort.
-#[derive(Drop)]
-pub struct Named {
-    /// The bytes of the name.
-    pub name: Items<u8>,
-    /// The sort.
-    pub sort: Sort,
-}
+use type_pass::tables::Named;
 
 /// An invariant of a `while`.
 #[derive(Drop)]

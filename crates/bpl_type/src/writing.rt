@@ -5,19 +5,19 @@ ghost use Rattle.std.specs.Prelude.{◌≡◌, List, map, fold, slice_get, unwra
 ghost use Rattle.std.specs.Option.{option_copied, option_and_then};
 ghost use Rattle.hy_val.specs.declared.expr.ExprNode.{ExprNode as Node};
 ghost use Rattle.bpl_type.specs.Making.{with_term, term_with, use_with, join_term, read_back};
-ghost use Rattle.bpl_type.specs.Replaced.{bracket_term, operated, argument};
-ghost use Rattle.bpl_type.specs.Terms.{Term, chain, substituted, missing, nodes_of};
+ghost use Rattle.type_pass.specs.Replaced.{bracket_term, operated, argument};
+ghost use Rattle.type_pass.specs.Terms.{Term, chain, substituted, missing, nodes_of};
 
-use crate::known::{Known, Locals};
 use crate::nodes::{
     Join, Made, append_body, last, push_bits, push_choice, push_extract, push_join, push_literal,
     push_missing, push_read, push_select, push_store, push_unary,
 };
-use crate::tables::{Builtin, Meaning};
 use bpl_ast::{Bracket, Expr, Name};
 use hy_val::{Atom, BvOp, ExprNode, UnOp};
 use sqlite_items::{Items, at};
 use std::alloc::{AllocError, Global};
+use type_pass::known::{Known, Locals};
+use type_pass::tables::{Builtin, Meaning};
 
 /// What is known where an expression stands.
 #[derive(Drop)]

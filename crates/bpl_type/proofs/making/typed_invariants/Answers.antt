@@ -1,7 +1,7 @@
 use Rattle.hy_val.specs.Exprs.{is_expr}
 use Rattle.bpl_type.specs.declared.typed.TypedInvariant.{TypedInvariant}
-use Rattle.bpl_type.specs.Declarations.{functions}
-use Rattle.bpl_type.specs.Scopes.{tables_of}
+use Rattle.type_pass.specs.Declarations.{functions}
+use Rattle.type_pass.specs.Scopes.{tables_of}
 use Rattle.bpl_type.specs.TypedOf.{invariant_of}
 use Rattle.bpl_type.proofs.ProgramLaws.{one-of}
 use Rattle.bpl_type.proofs.making.typed_invariants.Goals as goal

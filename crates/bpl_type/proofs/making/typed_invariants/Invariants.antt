@@ -1,6 +1,6 @@
 use Rattle.std.proofs.Common.{◌≡◌, map, take}
-use Rattle.bpl_type.specs.Declarations.{functions}
-use Rattle.bpl_type.specs.Scopes.{tables_of}
+use Rattle.type_pass.specs.Declarations.{functions}
+use Rattle.type_pass.specs.Scopes.{tables_of}
 use Rattle.bpl_type.specs.TypedOf.{invariant_of}
 use Rattle.bpl_type.proofs.making.typed_invariants.Given as goal
 

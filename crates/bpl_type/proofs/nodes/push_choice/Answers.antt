@@ -2,7 +2,7 @@ use Rattle.std.proofs.Common.{◌∙◌, ◌-◌, ◌++◌, ◌∷◌, [], lengt
 use Rattle.std.proofs.lemmas.Result.{on_ok_weaker}
 use Rattle.hy_val.specs.declared.expr.ExprNode.TheVariants as nodes
 use Rattle.bpl_type.specs.Making.{with_term}
-use Rattle.bpl_type.specs.Terms.{choice}
+use Rattle.type_pass.specs.Terms.{choice}
 use Rattle.bpl_type.proofs.MakingLaws.{pushed, with-choice}
 use Rattle.bpl_type.proofs.nodes.push_choice.Goals as goal
 

@@ -1,7 +1,7 @@
 use Rattle.std.proofs.Common.{◌∙◌, sym, ap}
 use Rattle.std.proofs.lemmas.Result.{on_ok_weaker}
 use Rattle.bpl_type.specs.Making.{with_term}
-use Rattle.bpl_type.specs.Replaced.{read_if}
+use Rattle.type_pass.specs.Replaced.{read_if}
 use Rattle.bpl_type.proofs.MakingLaws.{with-read}
 use Rattle.bpl_type.proofs.nodes.push_read.Goals as goal
 

@@ -1,7 +1,7 @@
 use Rattle.std.proofs.lemmas.Result.{on_ok_weaker}
 use Rattle.hy_val.specs.declared.expr.ExprNode.TheVariants as nodes
 use Rattle.bpl_type.specs.Making.{with_term}
-use Rattle.bpl_type.specs.Terms.{unary}
+use Rattle.type_pass.specs.Terms.{unary}
 use Rattle.bpl_type.proofs.MakingLaws.{pushed, with-unary}
 use Rattle.bpl_type.proofs.nodes.push_unary.Goals as goal
 

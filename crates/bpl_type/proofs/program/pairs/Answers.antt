@@ -2,8 +2,8 @@ use Rattle.std.proofs.Common.{◌∙◌, ◌++◌, ◌∷◌, [], List, take, sy
 use Rattle.std.specs.Option.{option_copied}
 use Rattle.hy_val.specs.declared.expr.ExprNode.{ExprNode}
 use Rattle.hy_val.specs.declared.expr.Var.{Var}
-use Rattle.bpl_type.specs.Declarations.{functions}
-use Rattle.bpl_type.specs.Scopes.{tables_of}
+use Rattle.type_pass.specs.Declarations.{functions}
+use Rattle.type_pass.specs.Scopes.{tables_of}
 use Rattle.bpl_type.specs.TypedOf.{pairs_of, var_of}
 use Rattle.bpl_type.proofs.ProgramLaws.{pairs-further, pairs-end, pair-is}
 use Rattle.bpl_type.proofs.program.pairs.Goals as goal

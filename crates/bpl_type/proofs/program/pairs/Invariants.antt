@@ -1,6 +1,6 @@
 use Rattle.std.proofs.Common.{◌≡◌, take}
-use Rattle.bpl_type.specs.Declarations.{functions}
-use Rattle.bpl_type.specs.Scopes.{tables_of}
+use Rattle.type_pass.specs.Declarations.{functions}
+use Rattle.type_pass.specs.Scopes.{tables_of}
 use Rattle.bpl_type.specs.TypedOf.{pairs_of}
 use Rattle.bpl_type.proofs.program.pairs.Given as goal
 

@@ -1,6 +1,6 @@
 use Rattle.std.proofs.Common.{◌≡◌, map, take}
 use Rattle.std.specs.Prelude.{flat_map}
-use Rattle.bpl_type.specs.Declarations.{function_of}
+use Rattle.type_pass.specs.Declarations.{function_of}
 use Rattle.bpl_type.proofs.templates.functions_of.Given as goal
 
 abbrev pub invariant-loop-decl : goal.invariant-loop-decl

@@ -1,5 +1,5 @@
 use Rattle.std.proofs.Common.{◌∙◌}
-use Rattle.bpl_type.specs.Terms.{missing}
+use Rattle.type_pass.specs.Terms.{missing}
 use Rattle.bpl_type.proofs.WritingLaws.{canonical, made-is}
 use Rattle.bpl_type.proofs.templates.missing_body.Goals as goal
 

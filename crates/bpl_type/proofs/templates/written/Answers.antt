@@ -1,8 +1,8 @@
 use Rattle.std.proofs.Common.{◌∙◌, List, length, false, ap}
-use Rattle.bpl_type.specs.declared.tables.Scope.{Scope}
-use Rattle.bpl_type.specs.declared.typed.Named.{Named}
+use Rattle.type_pass.specs.declared.tables.Scope.{Scope}
+use Rattle.type_pass.specs.declared.tables.Named.{Named}
 use Rattle.bpl_type.specs.Making.{term_with}
-use Rattle.bpl_type.specs.Terms.{nodes_of}
+use Rattle.type_pass.specs.Terms.{nodes_of}
 use Rattle.bpl_type.proofs.WritingLaws.{canonical, made-is}
 use Rattle.bpl_type.proofs.templates.written.Goals as goal
 

@@ -4,8 +4,8 @@ use Rattle.std.specs.List.{slice_get}
 use Rattle.std.proofs.lemmas.Result.{on_ok_weaker}
 use Rattle.bpl_ast.specs.declared.expr.Expr.{Expr}
 use Rattle.bpl_type.specs.Making.{with_term, term_with, read_back, body_nodes}
-use Rattle.bpl_type.specs.Scopes.{function_named}
-use Rattle.bpl_type.specs.Terms.{Term, substituted, missing, nodes_of}
+use Rattle.type_pass.specs.Scopes.{function_named}
+use Rattle.type_pass.specs.Terms.{Term, substituted, missing, nodes_of}
 use Rattle.bpl_type.proofs.MakingLaws.{reads-back}
 use Rattle.bpl_type.proofs.WritingLaws.{made-is, canonical, mapped-further, read-mapped, use-body}
 use Rattle.bpl_type.proofs.writing.+writing.Goals as goal

@@ -1,8 +1,8 @@
 use Rattle.std.proofs.Common.{◌≡◌, List, map, fold, take}
 use Rattle.hy_val.specs.declared.expr.ExprNode.{ExprNode}
 use Rattle.bpl_type.specs.Making.{with_term, term_with, use_with, join_term}
-use Rattle.bpl_type.specs.Replaced.{bracket_term}
-use Rattle.bpl_type.specs.Terms.{Term, nodes_of}
+use Rattle.type_pass.specs.Replaced.{bracket_term}
+use Rattle.type_pass.specs.Terms.{Term, nodes_of}
 use Rattle.bpl_type.proofs.WritingLaws.{chained}
 use Rattle.bpl_type.proofs.writing.+writing.Given as goal
 

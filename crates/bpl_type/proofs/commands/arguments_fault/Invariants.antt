@@ -1,8 +1,0 @@
-use Rattle.std.proofs.Common.{◌≡◌, map, drop, Some}
-use Rattle.bpl_type.specs.Faults.{earlier, first}
-use Rattle.bpl_type.specs.Commands.{values_faults}
-use Rattle.bpl_type.specs.ExprSorts.{part}
-use Rattle.bpl_type.proofs.commands.arguments_fault.Given as goal
-
-abbrev pub invariant-loop-number : goal.invariant-loop-number
-invariant-loop-number l = earlier l.so_far (first (values_faults (map Some (drop l.number l.ins)) (map (part l.known l.scope) (drop l.number l.arguments)))) ≡ earlier l.fn.found (first (values_faults (map Some l.ins) (map (part l.known l.scope) l.arguments)))

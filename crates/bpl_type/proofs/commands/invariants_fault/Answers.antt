@@ -1,8 +1,0 @@
-use Rattle.bpl_type.specs.Commands.{condition_faults}
-use Rattle.bpl_type.proofs.CommandLaws.{flat-turn}
-use Rattle.bpl_type.proofs.commands.invariants_fault.Goals as goal
-
-pub loop-invariant-preserved : goal.loop-invariant-preserved
-loop-invariant-preserved c =
-    flat-turn (λ i. condition_faults c.args.known.now c.args.scope.now i.condition) c.args.invariants.now c.loop-invariant.invariant-index c.invariant-item.result c.loop-invariant.so_far c.condition_fault-so_far.result _
-    c.loop-invariant-test.true c.invariant-item.is c.condition_fault-so_far.ensures c.loop-invariant.invariant

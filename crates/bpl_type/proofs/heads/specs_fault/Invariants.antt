@@ -1,9 +1,0 @@
-use Rattle.std.proofs.Common.{◌≡◌, drop}
-use Rattle.std.specs.Prelude.{flat_map}
-use Rattle.bpl_type.specs.Faults.{earlier, first}
-use Rattle.bpl_type.specs.Passes.{modifies_faults}
-use Rattle.bpl_type.proofs.heads.specs_fault.Given as goal
-
--- what was found comes before what the rest has
-abbrev pub invariant-loop-spec : goal.invariant-loop-spec
-invariant-loop-spec l = earlier l.found (first (flat_map (λ s. flat_map (modifies_faults l.fn.known) s.names) (drop l.spec-index l.specs))) ≡ first (flat_map (λ s. flat_map (modifies_faults l.fn.known) s.names) l.specs)

@@ -1,5 +1,0 @@
-use Rattle.std.proofs.Common.{◌≡◌, map, take}
-use Rattle.bpl_type.proofs.indexed.procedure_numbers.Given as goal
-
-abbrev pub invariant-loop-procedure : goal.invariant-loop-procedure
-invariant-loop-procedure l = map (λ t. t.now) l.texts.items ≡ map (λ p. p.name) (take l.procedure-index l.procedures)

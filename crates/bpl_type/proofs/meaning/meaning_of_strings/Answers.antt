@@ -1,6 +1,0 @@
-use Rattle.std.proofs.Common.{sym}
-use Rattle.bpl_type.proofs.TableLaws.{two-strings}
-use Rattle.bpl_type.proofs.meaning.meaning_of_strings.Goals as goal
-
-pub returns-in-len2-up : goal.returns-in-len2-up
-returns-in-len2-up c = sym (two-strings c.args.strings.now c.in-len2-up.len_at_least)

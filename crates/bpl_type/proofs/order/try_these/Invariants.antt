@@ -1,5 +1,0 @@
-use Rattle.bpl_type.specs.Orders.{Grows}
-use Rattle.bpl_type.proofs.order.try_these.Given as goal
-
-abbrev pub invariant-loop-node : goal.invariant-loop-node
-invariant-loop-node l = Grows l.graph l.initial.sorting.order.items l.sorting.order.items l.sorting.done.items l.sorting.next.items

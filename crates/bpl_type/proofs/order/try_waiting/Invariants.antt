@@ -1,9 +1,0 @@
-use Rattle.std.proofs.Common.{◌-◌, length}
-use Rattle.bpl_type.specs.Orders.{Grows}
-use Rattle.bpl_type.proofs.order.try_waiting.Given as goal
-
-abbrev pub invariant-loop-head : goal.invariant-loop-head
-invariant-loop-head l = Grows l.graph l.initial.sorting.order.items l.sorting.order.items l.sorting.done.items l.sorting.next.items
-
-abbrev pub decreases-loop-head : goal.decreases-loop-head
-decreases-loop-head l = length l.graph - l.head

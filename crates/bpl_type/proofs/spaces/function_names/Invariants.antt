@@ -1,8 +1,0 @@
-use Rattle.std.proofs.Common.{◌≡◌, ◌++◌, map, drop}
-use Rattle.std.specs.Prelude.{flat_map}
-use Rattle.bpl_type.specs.Declarations.{function_of, functions}
-use Rattle.bpl_type.proofs.spaces.function_names.Given as goal
-
--- the names so far, and then those of the rest
-abbrev pub invariant-loop-decl : goal.invariant-loop-decl
-invariant-loop-decl l = map (λ n. n.now) l.names.items ++ map (λ f. f.name) (flat_map function_of (drop l.decl-index l.fn.ast.decls)) ≡ map (λ f. f.name) (functions l.fn.ast)

@@ -1,7 +1,0 @@
-use Rattle.std.proofs.Common.{◌≡◌, ◌++◌, map, drop}
-use Rattle.std.specs.Prelude.{flat_map}
-use Rattle.bpl_type.specs.Declarations.{value_name}
-use Rattle.bpl_type.proofs.spaces.value_space.Given as goal
-
-abbrev pub invariant-loop-decl : goal.invariant-loop-decl
-invariant-loop-decl l = map (λ n. n.now) l.names.items ++ flat_map value_name (drop l.decl-index l.fn.ast.decls) ≡ flat_map value_name l.fn.ast.decls

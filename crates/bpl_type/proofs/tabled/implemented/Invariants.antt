@@ -1,7 +1,0 @@
-use Rattle.std.proofs.Common.{◌≡◌, ◌++◌, map, drop}
-use Rattle.std.specs.Prelude.{flat_map}
-use Rattle.bpl_type.specs.Declarations.{implementation_of, implementations}
-use Rattle.bpl_type.proofs.tabled.implemented.Given as goal
-
-abbrev pub invariant-loop-decl : goal.invariant-loop-decl
-invariant-loop-decl l = map (λ t. t.now) l.names.items ++ map (λ i. i.name.text) (flat_map implementation_of (drop l.decl-index l.fn.ast.decls)) ≡ map (λ i. i.name.text) (implementations l.fn.ast)

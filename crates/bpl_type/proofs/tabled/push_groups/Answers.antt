@@ -1,9 +1,0 @@
-use Rattle.std.proofs.Common.{◌++◌, refl, sym, ◌∙◌, ap}
-use Rattle.bpl_type.proofs.SpaceLaws.{list-done}
-use Rattle.bpl_type.proofs.TableLaws.{group_piece, groups-named}
-use Rattle.bpl_type.proofs.tabled.push_groups.Goals as goal
-
-pub returns : goal.returns
-returns c =
-    list-done (group_piece c.args.types.now) c.args.groups.now c.args.groups.now c.loop-group.group-index c.loop-group.named _ refl c.loop-group-test.false c.loop-group.invariant
-    ∙ ap (λ ns. c.args.named.now ++ ns) (sym (groups-named c.args.types.now c.args.groups.now))

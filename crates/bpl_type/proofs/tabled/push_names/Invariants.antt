@@ -1,6 +1,0 @@
-use Rattle.std.proofs.Common.{◌≡◌, ◌++◌, map, drop}
-use Rattle.bpl_type.specs.Tabled.{named_as}
-use Rattle.bpl_type.proofs.tabled.push_names.Given as goal
-
-abbrev pub invariant-loop-name : goal.invariant-loop-name
-invariant-loop-name l = l.named ++ map (named_as l.sort) (drop l.name-index l.names) ≡ l.initial.named ++ map (named_as l.sort) l.names

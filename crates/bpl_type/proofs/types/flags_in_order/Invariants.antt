@@ -1,9 +1,0 @@
-use Rattle.std.proofs.Common.{map, take, false}
-use Rattle.bpl_type.specs.Memos.{head_graph}
-use Rattle.bpl_type.proofs.MemoLaws.{IsNoted}
-use Rattle.bpl_type.proofs.TypeLaws.{map_step}
-use Rattle.bpl_type.proofs.types.flags_in_order.Given as goal
-
--- the values of the nodes so far are noted
-abbrev pub invariant-loop-node : goal.invariant-loop-node
-invariant-loop-node l = IsNoted false (map_step (map (λ s. s.now) l.types)) (head_graph (map (λ s. s.now) l.types)) (take l.node-index l.nodes) l.flags.items

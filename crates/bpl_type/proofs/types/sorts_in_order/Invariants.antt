@@ -1,9 +1,0 @@
-use Rattle.std.proofs.Common.{map, take, None}
-use Rattle.bpl_type.specs.Sorts.{type_graph}
-use Rattle.bpl_type.proofs.MemoLaws.{IsNoted}
-use Rattle.bpl_type.proofs.TypeLaws.{sort_step}
-use Rattle.bpl_type.proofs.types.sorts_in_order.Given as goal
-
--- the values of the nodes so far are noted
-abbrev pub invariant-loop-node : goal.invariant-loop-node
-invariant-loop-node l = IsNoted None (sort_step (map (λ s. s.now) l.types)) (type_graph (map (λ s. s.now) l.types)) (take l.node-index l.nodes) l.sorts.items

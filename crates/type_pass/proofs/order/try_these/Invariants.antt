@@ -1,0 +1,5 @@
+use Rattle.type_pass.specs.Orders.{Grows}
+use Rattle.type_pass.proofs.order.try_these.Given as goal
+
+abbrev pub invariant-loop-node : goal.invariant-loop-node
+invariant-loop-node l = Grows l.graph l.initial.sorting.order.items l.sorting.order.items l.sorting.done.items l.sorting.next.items

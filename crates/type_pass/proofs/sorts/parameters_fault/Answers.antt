@@ -1,0 +1,10 @@
+use Rattle.std.proofs.Common.{refl, ◌∙◌, ap}
+use Rattle.type_pass.specs.Faults.{earlier}
+use Rattle.type_pass.specs.Told.{parameter_faults}
+use Rattle.type_pass.proofs.SpaceLaws.{faults-further}
+use Rattle.type_pass.proofs.sorts.parameters_fault.Goals as goal
+
+pub loop-group-preserved : goal.loop-group-preserved
+loop-group-preserved c =
+    faults-further (parameter_faults c.args.types.now) c.args.groups.now c.args.groups.now c.loop-group.group-index c.group-item.result c.loop-group.found c.earlier-found.result _
+    refl c.loop-group-test.true c.group-item.is (c.earlier-found.ensures ∙ ap (earlier c.loop-group.found) c.parameter_fault.ensures) c.loop-group.invariant
