@@ -1,10 +1,14 @@
 -- What follows of an outcome that was told.
-use Rattle.std.proofs.Common.{◌≡◌, ◌≢◌, ℕ, List, sym, ◌∙◌, ap, refl, subst}
+use Rattle.std.proofs.Common.{◌≡◌, ◌≢◌, ℕ, List, Bool, true, false, sym, ◌∙◌, ap, refl, subst}
 use Rattle.std.specs.Prelude.{Option, None, Some, Result, Ok, Err, IfOk}
 use Rattle.bpl_ast.specs.declared.decl.Ast.{Ast}
-use Rattle.bool_run.specs.Program.{Program}
-use Rattle.bool_run.specs.Shape.{number_of}
-use Rattle.bool_form.specs.Form.{program_of}
+use Rattle.bpl_flow.specs.Flow.{lowered}
+use Rattle.bpl_flow.specs.declared.fault.FlowFault.{FlowFault}
+use Rattle.bpl_type.specs.Checked.{checked}
+use Rattle.type_pass.specs.declared.fault.TypeFault.{TypeFault}
+use Rattle.bpl_type.specs.declared.typed.Typed.{Typed}
+use Rattle.src_prog.specs.Program.{Program, number_of}
+use Rattle.src_run.specs.Plain.{is_plain}
 use Rattle.hydra_top.specs.declared.reading.Source.{Source}
 use Rattle.hydra_top.specs.declared.judging.Answer.{Answer}
 use Rattle.hydra_top.specs.declared.outcome.Outcome.{Outcome}
@@ -12,32 +16,43 @@ use Rattle.hydra_top.specs.declared.outcome.Outcome.TheVariants.{Safe, Bug, Done
 use Rattle.hydra_top.specs.declared.outcome.Refusal.{Refusal}
 use Rattle.hydra_top.specs.Reading.{ReadsFile, IsSource}
 use Rattle.hydra_top.specs.Texts.{refusal_text, text_of}
-use Rattle.hydra_top.specs.Top.{IsDone, IsEntered, IsFormed, IsJudged, IsRead, IsRight, IsTold, IsAnswer, IsAnswerFor, PrintsFront, tree_in}
+use Rattle.hydra_top.specs.Top.{IsDone, IsEntered, IsLowered, IsSearched, IsTyped, IsJudged, IsRead, IsRight, IsTold, IsAnswer, IsAnswerFor, PrintsFront, tree_in}
 use Rattle.hydra_top.specs.Trees.{IsReadAs}
-use Rattle.hydra_top.specs.Words.{Job, solo, show, Task, task_of}
+use Rattle.hydra_top.specs.Words.{Job, solo, show, entry_in, entry_of, Task, task_of}
 use Rattle.hydra_top.specs.Writing.{AppendsFront}
 
 -- a file that was judged gives a verdict or a refusal
-entered_decides : (prog : Program) (name : List ℕ) (bound : ℕ) (entry : Option ℕ) (outcome : Outcome) → IsEntered prog name bound entry outcome → (outcome ≢ ReadFault) × (outcome ≢ WriteFault)
+abbrev Decides : Outcome → Type 0
+Decides outcome = (outcome ≢ ReadFault) × (outcome ≢ WriteFault)
+
+searched_decides : (prog : Program) (entry bound : ℕ) (plain : Bool) (outcome : Outcome) → IsSearched prog entry bound plain outcome → Decides outcome
+searched_decides prog entry bound false outcome h = (λ e. cc, λ e. cc)
+searched_decides prog entry bound true Safe h = (λ e. cc, λ e. cc)
+searched_decides prog entry bound true (Bug choices p a) h = (λ e. cc, λ e. cc)
+searched_decides prog entry bound true Done h = absurd h
+searched_decides prog entry bound true (Refused refusal) h = absurd h
+searched_decides prog entry bound true ReadFault h = absurd h
+searched_decides prog entry bound true WriteFault h = absurd h
+searched_decides prog entry bound true NoMemory h = absurd h
+
+entered_decides : (prog : Program) (name : List ℕ) (bound : ℕ) (entry : Option ℕ) (outcome : Outcome) → IsEntered prog name bound entry outcome → Decides outcome
 entered_decides prog name bound None outcome h = (λ e. cc, λ e. cc)
-entered_decides prog name bound (Some entry) Safe h = (λ e. cc, λ e. cc)
-entered_decides prog name bound (Some entry) (Bug choices p a) h = (λ e. cc, λ e. cc)
-entered_decides prog name bound (Some entry) Done h = absurd h
-entered_decides prog name bound (Some entry) (Refused refusal) h = absurd h
-entered_decides prog name bound (Some entry) ReadFault h = absurd h
-entered_decides prog name bound (Some entry) WriteFault h = absurd h
-entered_decides prog name bound (Some entry) NoMemory h = absurd h
+entered_decides prog name bound (Some entry) outcome h = searched_decides prog entry bound (is_plain prog entry) outcome h
 
-formed_decides : (name : List ℕ) (bound : ℕ) (prog : Option Program) (outcome : Outcome) → IsFormed name bound prog outcome → (outcome ≢ ReadFault) × (outcome ≢ WriteFault)
-formed_decides name bound None outcome h = (λ e. cc, λ e. cc)
-formed_decides name bound (Some prog) outcome h = entered_decides prog name bound (number_of prog name) outcome h
+lowered_decides : (name : List ℕ) (bound : ℕ) (flow : Result Program FlowFault) (outcome : Outcome) → IsLowered name bound flow outcome → Decides outcome
+lowered_decides name bound (Err fault) outcome h = (λ e. cc, λ e. cc)
+lowered_decides name bound (Ok prog) outcome h = entered_decides prog name bound (number_of prog name) outcome h
 
-read_decides : (job : Job) (tree : Result Ast Refusal) (outcome : Outcome) → IsRead job tree outcome → (outcome ≢ ReadFault) × (outcome ≢ WriteFault)
+typed_decides : (name : List ℕ) (bound : ℕ) (check : Result Typed TypeFault) (outcome : Outcome) → IsTyped name bound check outcome → Decides outcome
+typed_decides name bound (Err fault) outcome h = (λ e. cc, λ e. cc)
+typed_decides name bound (Ok typed) outcome h = lowered_decides name bound (lowered typed) outcome h
+
+read_decides : (job : Job) (tree : Result Ast Refusal) (outcome : Outcome) → IsRead job tree outcome → Decides outcome
 read_decides job (Err refusal) outcome h = (λ e. cc, λ e. cc)
-read_decides (solo name bound) (Ok tree) outcome h = formed_decides name bound (program_of tree) outcome h
+read_decides (solo name bound) (Ok tree) outcome h = typed_decides name bound (checked tree) outcome h
 read_decides show (Ok tree) outcome h = (λ e. cc, λ e. cc)
 
-told_right : (before now : ℕ) (files : Option (List (List ℕ × List ℕ))) (task : Option Task) (tree : Option Ast) (outcome : Outcome) → now ≡ before → (outcome ≢ ReadFault) × (outcome ≢ WriteFault) → IsRight files task tree outcome → IsTold before now files task tree outcome
+told_right : (before now : ℕ) (files : Option (List (List ℕ × List ℕ))) (task : Option Task) (tree : Option Ast) (outcome : Outcome) → now ≡ before → Decides outcome → IsRight files task tree outcome → IsTold before now files task tree outcome
 told_right before now files task tree Safe stays not right = record { may = right; causes = stays }
 told_right before now files task tree (Bug choices p a) stays not right = record { may = right; causes = stays }
 told_right before now files task tree Done stays not right = record { may = right; causes = stays }
@@ -47,13 +62,13 @@ told_right before now files task tree WriteFault stays not right = absurd (not.1
 told_right before now files task tree NoMemory stays not right = record { may = tt; causes = tt }
 
 -- the answer for a tree, or for a refusal, is one for its bytes
-pub answer_done : {E : Type 0} → (job : Job) (bytes : List ℕ) (tree : Ast) (result : Result Answer E) → IsReadAs bytes (Ok tree) → IfOk result (λ a. IsDone job tree a.outcome) → IfOk result (λ a. a.text ≡ text_of (Some tree) a.outcome) → IfOk result (λ a. IsAnswerFor job bytes a.outcome a.text)
+pub answer_done : {E : Type 0} → (job : Job) (bytes : List ℕ) (tree : Ast) (result : Result Answer E) → IsReadAs bytes (Ok tree) → IfOk result (λ a. IsDone job tree a.outcome) → IfOk result (λ a. a.text ≡ text_of (entry_of job) (Some tree) a.outcome) → IfOk result (λ a. IsAnswerFor job bytes a.outcome a.text)
 answer_done job bytes tree (Ok a) reads done text_is = record { read = Ok tree; reads = reads; judged = done; text_is = text_is }
 answer_done job bytes tree (Err e) reads done text_is = tt
 
 pub answer_refused : {E : Type 0} → (job : Job) (bytes : List ℕ) (refusal : Refusal) (result : Result Answer E) → IsReadAs bytes (Err refusal) → IfOk result (λ a. a.outcome ≡ Refused refusal) → IfOk result (λ a. a.text ≡ refusal_text refusal) → IfOk result (λ a. IsAnswerFor job bytes a.outcome a.text)
 answer_refused job bytes refusal (Ok a) reads told text_is =
-    record { read = Err refusal; reads = reads; judged = told; text_is = text_is ∙ ap (text_of None) (sym told) }
+    record { read = Err refusal; reads = reads; judged = told; text_is = text_is ∙ ap (text_of (entry_of job) None) (sym told) }
 answer_refused job bytes refusal (Err e) reads told text_is = tt
 
 -- the answer for what was read is one for the file
@@ -71,5 +86,5 @@ prints_front before now files words held grown told text answer appends =
     record { begun = told; tree = answer.tree; told = answer.told; text = subst (λ t. AppendsFront held grown t) answer.text_is appends }
 
 -- want of memory may always be told
-pub answer_none : (before now : ℕ) (files : Option (List (List ℕ × List ℕ))) (task : Option Task) → IsAnswer before now files task NoMemory (text_of None NoMemory)
+pub answer_none : (before now : ℕ) (files : Option (List (List ℕ × List ℕ))) (task : Option Task) → IsAnswer before now files task NoMemory (text_of (entry_in task) None NoMemory)
 answer_none before now files task = record { tree = None; told = record { may = tt; causes = tt }; text_is = refl }

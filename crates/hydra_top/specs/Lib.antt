@@ -2,6 +2,8 @@ pub mod Asked
 pub mod Reading
 pub mod Texts
 pub mod Top
+pub mod Traces
 pub mod Trees
+pub mod Values
 pub mod Words
 pub mod Writing

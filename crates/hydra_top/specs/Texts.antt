@@ -1,61 +1,32 @@
 -- What the program prints for an outcome, and the status with which it ends.
-use Rattle.std.specs.Prelude.{ℕ, ◌+◌, true, false, List, [], ◌∷◌, ◌++◌, codes, decimal, slice_get, Option, None, Some}
-use Rattle.std.specs.Option.{option_map_or}
-use Rattle.bool_run.specs.declared.prog.Named.{Named}
-use Rattle.bool_run.specs.declared.prog.SrcProc.{SrcProc}
-use Rattle.bool_run.specs.declared.values.Atom.TheVariants.{Bool as BoolAtom}
-use Rattle.bool_run.specs.declared.values.Value.{Value}
-use Rattle.bool_run.specs.declared.values.Value.TheVariants.{Atom as AtomValue}
-use Rattle.bool_run.specs.declared.machine.Choice.{Choice}
-use Rattle.bool_run.specs.declared.machine.Choice.TheVariants.{Go, Val}
-use Rattle.bool_run.specs.Program.{Program}
-use Rattle.bool_form.specs.Form.{program_of}
+use Rattle.std.specs.Prelude.{ℕ, List, [], ◌++◌, codes, decimal, slice_get, Option, None, Some, Result, Ok, Err}
+use Rattle.std.specs.Option.{option_and_then}
 use Rattle.bpl_ast.specs.declared.decl.Ast.{Ast}
 use Rattle.bpl_ast.specs.declared.word.Word.{Word}
 use Rattle.bpl_ast.specs.declared.word.Word.TheVariants as words
+use Rattle.bpl_flow.specs.Flow.{lowered}
+use Rattle.bpl_flow.specs.declared.fault.FlowFault.{FlowFault}
+use Rattle.bpl_flow.specs.declared.fault.FlowKind.{FlowKind}
+use Rattle.bpl_flow.specs.declared.fault.FlowKind.TheVariants.{NoLabel, LabelTwice, NotForward, BreakOutside}
 use Rattle.bpl_parse.specs.declared.fault.ParseKind.{ParseKind}
 use Rattle.bpl_parse.specs.declared.fault.ParseKind.TheVariants.{Unexpected, EndTooSoon, TooDeep, LeftOut}
 use Rattle.bpl_show.specs.Shown.{shown_text}
 use Rattle.bpl_tok.specs.declared.token.LexKind.{LexKind}
 use Rattle.bpl_tok.specs.declared.token.LexKind.TheVariants.{BadByte, OpenComment, OpenString, LiteralTooWide}
+use Rattle.bpl_type.specs.Checked.{checked}
+use Rattle.type_pass.specs.declared.fault.TypeFault.{TypeFault}
+use Rattle.type_pass.specs.declared.fault.TypeKind.{TypeKind}
+use Rattle.type_pass.specs.declared.fault.TypeKind.TheVariants as types
+use Rattle.bpl_type.specs.declared.typed.Typed.{Typed}
+use Rattle.src_prog.specs.Program.{Program, number_of}
+use Rattle.src_run.specs.declared.machine.Choice.{Choice}
 use Rattle.hydra_top.specs.declared.outcome.Refusal.{Refusal}
-use Rattle.hydra_top.specs.declared.outcome.Refusal.TheVariants.{NotBuilt as NotBuiltPart, TooLong, Lex, Parse, NoEntry}
+use Rattle.hydra_top.specs.declared.outcome.Refusal.TheVariants.{NotBuilt as NotBuiltPart, TooLong, Lex, Parse, Typing, Flow, NoEntry}
 use Rattle.hydra_top.specs.declared.outcome.Outcome.{Outcome}
 use Rattle.hydra_top.specs.declared.outcome.Outcome.TheVariants.{Safe, Bug, Done, Refused, ReadFault, WriteFault, NoMemory}
+use Rattle.hydra_top.specs.Traces.{line, names_asked, trace_text}
 
--- a line ends with one line feed
-abbrev pub line : List ℕ → List ℕ
-line text = text ++ 10 ∷ []
-
-abbrev pub value_text : Value → List ℕ
-value_text (AtomValue (BoolAtom true)) = codes "true"
-value_text (AtomValue (BoolAtom false)) = codes "false"
-
--- the name of the global at a place, and of the procedure of a number
-abbrev pub global_name : Program → ℕ → List ℕ
-global_name prog at = option_map_or (λ (g : Named). g.name) (slice_get prog.globals at) []
-
-abbrev pub proc_name : Program → ℕ → List ℕ
-proc_name prog number = option_map_or (λ (p : SrcProc). p.name) (slice_get prog.procs number) []
-
--- the line of the choice at an index: the value of the global that is asked for there, or the place of a goto's target
-abbrev pub choice_line : Program → ℕ → Choice → List ℕ
-choice_line prog index (Val value) = line (codes "v " ++ global_name prog index ++ codes " " ++ value_text value)
-choice_line prog index (Go place) = line (codes "g " ++ decimal place)
-
-abbrev pub choice_lines : Program → ℕ → List Choice → List ℕ
-choice_lines prog index [] = []
-choice_lines prog index (choice ∷ choices) = choice_line prog index choice ++ choice_lines prog (index + 1) choices
-
--- a trace: a head, a line for each choice, and the assert that is false
-abbrev pub trace_text : Program → List Choice → ℕ → ℕ → List ℕ
-trace_text prog choices proc assert =
-    line (codes "Bug") ++ choice_lines prog 0 choices ++ line (codes "fails " ++ proc_name prog proc ++ codes " " ++ decimal assert)
-
--- the trace names what the program calls its globals and procedures
-abbrev pub bug_text : Option Program → List Choice → ℕ → ℕ → List ℕ
-bug_text None choices proc assert = []
-bug_text (Some prog) choices proc assert = trace_text prog choices proc assert
+-- ---- refusals
 
 -- what no program has
 abbrev pub left_out : Word → List ℕ
@@ -92,6 +63,23 @@ parse_words EndTooSoon = codes "end too soon"
 parse_words TooDeep = codes "too deep"
 parse_words (LeftOut what) = codes "left out " ++ left_out what
 
+abbrev pub type_words : TypeKind → List ℕ
+type_words types.Unknown = codes "unknown"
+type_words types.Twice = codes "twice"
+type_words types.Mismatch = codes "mismatch"
+type_words types.Arity = codes "arity"
+type_words types.Width = codes "width"
+type_words types.Cyclic = codes "cyclic"
+type_words types.NotAssignable = codes "not assignable"
+type_words types.Large = codes "large"
+type_words (types.LeftOut what) = codes "left out " ++ left_out what
+
+abbrev pub flow_words : FlowKind → List ℕ
+flow_words NoLabel = codes "no label"
+flow_words LabelTwice = codes "label twice"
+flow_words NotForward = codes "not forward"
+flow_words BreakOutside = codes "break outside"
+
 -- a fault of a file's text: the part that found it, the offset of the byte, and the words of its kind
 abbrev pub fault_line : List ℕ → ℕ → List ℕ → List ℕ
 fault_line part at kind = line (codes "refused: " ++ part ++ codes " " ++ decimal at ++ codes " " ++ kind)
@@ -101,27 +89,46 @@ refusal_text (NotBuiltPart part) = line (codes "refused: not built")
 refusal_text TooLong = line (codes "refused: too long")
 refusal_text (Lex fault) = fault_line (codes "lex") fault.at (lex_words fault.kind)
 refusal_text (Parse fault) = fault_line (codes "parse") fault.at (parse_words fault.kind)
+refusal_text (Typing fault) = fault_line (codes "type") fault.at (type_words fault.kind)
+refusal_text (Flow fault) = fault_line (codes "flow") fault.at (flow_words fault.kind)
 refusal_text (NoEntry name) = line (codes "refused: no entry " ++ name)
+
+-- ---- outcomes
+
+-- the program of a flow, if it has one
+abbrev pub flowing : Result Program FlowFault → Option Program
+flowing (Ok prog) = Some prog
+flowing (Err fault) = None
+
+-- the program that a checked tree is lowered to
+abbrev pub lowering : Result Typed TypeFault → Option Program
+lowering (Ok typed) = flowing (lowered typed)
+lowering (Err fault) = None
 
 -- the program of a tree, if it has one
 abbrev pub program_in : Option Ast → Option Program
 program_in None = None
-program_in (Some tree) = program_of tree
+program_in (Some tree) = lowering (checked tree)
+
+-- the trace of a run of the procedure of this name
+abbrev pub bug_text : (entry : List ℕ) → Option Program → List Choice → ℕ → ℕ → List ℕ
+bug_text entry None choices proc assert = []
+bug_text entry (Some prog) choices proc assert = trace_text prog (names_asked prog (option_and_then (slice_get prog.procs) (number_of prog entry))) choices proc assert
 
 -- a tree in its canonical form
 abbrev pub canonical : Option Ast → List ℕ
 canonical None = []
 canonical (Some tree) = shown_text tree
 
--- what is printed for an outcome about a tree
-abbrev pub text_of : Option Ast → Outcome → List ℕ
-text_of tree Safe = line (codes "Safe")
-text_of tree (Bug choices proc assert) = bug_text (program_in tree) choices proc assert
-text_of tree Done = canonical tree
-text_of tree (Refused refusal) = refusal_text refusal
-text_of tree ReadFault = line (codes "fault: read")
-text_of tree WriteFault = []
-text_of tree NoMemory = line (codes "no memory")
+-- what is printed for an outcome about a tree, or about the runs of an entry of its program
+abbrev pub text_of : (entry : List ℕ) → Option Ast → Outcome → List ℕ
+text_of entry tree Safe = line (codes "Safe")
+text_of entry tree (Bug choices proc assert) = bug_text entry (program_in tree) choices proc assert
+text_of entry tree Done = canonical tree
+text_of entry tree (Refused refusal) = refusal_text refusal
+text_of entry tree ReadFault = line (codes "fault: read")
+text_of entry tree WriteFault = []
+text_of entry tree NoMemory = line (codes "no memory")
 
 -- the number of an outcome, which is the status of the process
 abbrev pub status_number : Outcome → ℕ

@@ -1,46 +1,60 @@
 -- What the program promises of its outcome.
-use Rattle.std.specs.Prelude.{◌≡◌, ◌≢◌, ℕ, List, [], ◌∷◌, ◌++◌, ◌⊎◌, Option, None, Some, IsSome, Result, Ok, Err, ⊤}
+use Rattle.std.specs.Prelude.{◌≡◌, ◌≢◌, ℕ, Bool, true, false, List, [], ◌∷◌, ◌++◌, ◌⊎◌, Option, None, Some, IsSome, Result, Ok, Err, ⊤}
 use Rattle.std.specs.Io.KnownBytes.{Appends}
 use Rattle.bpl_ast.specs.declared.decl.Ast.{Ast}
-use Rattle.bool_run.specs.declared.machine.Status.TheVariants.{Failed}
-use Rattle.bool_run.specs.Program.{Program}
-use Rattle.bool_run.specs.Shape.{number_of}
-use Rattle.bool_run.specs.Machine.{NoneFails, status_of}
-use Rattle.bool_form.specs.Form.{program_of}
+use Rattle.bpl_flow.specs.Flow.{lowered}
+use Rattle.bpl_flow.specs.declared.fault.FlowFault.{FlowFault}
+use Rattle.bpl_type.specs.Checked.{checked}
+use Rattle.type_pass.specs.declared.fault.TypeFault.{TypeFault}
+use Rattle.bpl_type.specs.declared.typed.Typed.{Typed}
+use Rattle.src_prog.specs.Program.{Program, number_of}
+use Rattle.src_run.specs.Machine.{HasStatus, NoneFails}
+use Rattle.src_run.specs.Plain.{is_plain}
+use Rattle.src_run.specs.declared.machine.Status.TheVariants.{Failed}
 use Rattle.hy_outside.specs.Outside.{OpensTo, Rose}
 use Rattle.hydra_top.specs.declared.outcome.NotBuilt.TheVariants.{Words, Source}
 use Rattle.hydra_top.specs.declared.outcome.Refusal.{Refusal}
-use Rattle.hydra_top.specs.declared.outcome.Refusal.TheVariants.{NotBuilt as NotBuiltPart, NoEntry}
+use Rattle.hydra_top.specs.declared.outcome.Refusal.TheVariants.{NotBuilt as NotBuiltPart, Typing, Flow, NoEntry}
 use Rattle.hydra_top.specs.declared.outcome.Outcome.{Outcome}
 use Rattle.hydra_top.specs.declared.outcome.Outcome.TheVariants.{Safe, Bug, Done, Refused, ReadFault, WriteFault, NoMemory}
 use Rattle.hydra_top.specs.Texts.{text_of}
 use Rattle.hydra_top.specs.Trees.{IsReadAs}
-use Rattle.hydra_top.specs.Words.{Job, solo, show, Task, task_of}
+use Rattle.hydra_top.specs.Words.{Job, solo, show, entry_in, entry_of, Task, task_of}
 use Rattle.hydra_top.specs.Writing.{AppendsFront}
 
 -- the verdict on the runs of an entry within a bound: Safe where none fails, Bug with a failing one
 abbrev pub IsVerdict : Program → (entry bound : ℕ) → Outcome → Type 0
 IsVerdict prog entry bound Safe = NoneFails prog entry bound
-IsVerdict prog entry bound (Bug choices proc assert) = status_of prog entry bound choices ≡ Failed proc assert
+IsVerdict prog entry bound (Bug choices proc assert) = HasStatus prog entry bound choices (Failed proc assert)
 IsVerdict prog entry bound Done = ⊥
 IsVerdict prog entry bound (Refused refusal) = ⊥
 IsVerdict prog entry bound ReadFault = ⊥
 IsVerdict prog entry bound WriteFault = ⊥
 IsVerdict prog entry bound NoMemory = ⊥
 
+-- the runs of a plain entry are searched; another one is refused, since its search is not built
+abbrev pub IsSearched : Program → (entry bound : ℕ) → (plain : Bool) → Outcome → Type 0
+IsSearched prog entry bound true outcome = IsVerdict prog entry bound outcome
+IsSearched prog entry bound false outcome = outcome ≡ Refused (NotBuiltPart Source)
+
 -- where no procedure has the name of the entry, it is refused by that name
 abbrev pub IsEntered : Program → (name : List ℕ) (bound : ℕ) → Option ℕ → Outcome → Type 0
 IsEntered prog name bound None outcome = outcome ≡ Refused (NoEntry name)
-IsEntered prog name bound (Some entry) outcome = IsVerdict prog entry bound outcome
+IsEntered prog name bound (Some entry) outcome = IsSearched prog entry bound (is_plain prog entry) outcome
 
--- where the tree has not the form, it is refused
-abbrev pub IsFormed : (name : List ℕ) (bound : ℕ) → Option Program → Outcome → Type 0
-IsFormed name bound None outcome = outcome ≡ Refused (NotBuiltPart Source)
-IsFormed name bound (Some prog) outcome = IsEntered prog name bound (number_of prog name) outcome
+-- a program whose flow has a fault is refused for it
+abbrev pub IsLowered : (name : List ℕ) (bound : ℕ) → Result Program FlowFault → Outcome → Type 0
+IsLowered name bound (Err fault) outcome = outcome ≡ Refused (Flow fault)
+IsLowered name bound (Ok prog) outcome = IsEntered prog name bound (number_of prog name) outcome
+
+-- a program whose typing has a fault is refused for it, before its flow is looked at
+abbrev pub IsTyped : (name : List ℕ) (bound : ℕ) → Result Typed TypeFault → Outcome → Type 0
+IsTyped name bound (Err fault) outcome = outcome ≡ Refused (Typing fault)
+IsTyped name bound (Ok typed) outcome = IsLowered name bound (lowered typed) outcome
 
 -- the outcome of a job on a tree
 abbrev pub IsDone : Job → Ast → Outcome → Type 0
-IsDone (solo name bound) tree outcome = IsFormed name bound (program_of tree) outcome
+IsDone (solo name bound) tree outcome = IsTyped name bound (checked tree) outcome
 IsDone show tree outcome = outcome ≡ Done
 
 -- where the file is refused before it has a tree, that is the outcome
@@ -68,7 +82,7 @@ pub record IsAnswerFor (job : Job) (bytes : List ℕ) (outcome : Outcome) (text 
   pub read : Result Ast Refusal
   pub reads : IsReadAs bytes read
   pub judged : IsRead job read outcome
-  pub text_is : text ≡ text_of (tree_in read) outcome
+  pub text_is : text ≡ text_of (entry_of job) (tree_in read) outcome
 
 -- the outcome for the words, where no fault came and memory sufficed: words that are not of the form are refused
 abbrev pub IsRight : Option (List (List ℕ × List ℕ)) → Option Task → Option Ast → Outcome → Type 0
@@ -104,7 +118,7 @@ pub record IsTold (before now : ℕ) (files : Option (List (List ℕ × List ℕ
 pub record IsAnswer (before now : ℕ) (files : Option (List (List ℕ × List ℕ))) (task : Option Task) (outcome : Outcome) (text : List ℕ) : Type 0 where
   pub tree : Option Ast
   pub told : IsTold before now files task tree outcome
-  pub text_is : text ≡ text_of tree outcome
+  pub text_is : text ≡ text_of (entry_in task) tree outcome
 
 -- the outcome is right, unless its text could not be written
 abbrev pub RightFor : Option (List (List ℕ × List ℕ)) → List (List ℕ) → Outcome → Type 0
@@ -114,14 +128,14 @@ RightFor files words outcome = outcome ≢ WriteFault → (tree : Option Ast) ×
 pub record Prints (before now : ℕ) (files : Option (List (List ℕ × List ℕ))) (words : List (List ℕ)) (held grown : Option (List ℕ)) (outcome : Outcome) : Type 0 where
   pub tree : Option Ast
   pub told : IsTold before now files (task_of words) tree outcome
-  pub text : Appends held grown (text_of tree outcome)
+  pub text : Appends held grown (text_of (entry_in (task_of words)) tree outcome)
 
 -- the sink has grown by a front of the text of some outcome that may be told
 pub record PrintsFront (before now : ℕ) (files : Option (List (List ℕ × List ℕ))) (words : List (List ℕ)) (held grown : Option (List ℕ)) : Type 0 where
   pub begun : Outcome
   pub tree : Option Ast
   pub told : IsTold before now files (task_of words) tree begun
-  pub text : AppendsFront held grown (text_of tree begun)
+  pub text : AppendsFront held grown (text_of (entry_in (task_of words)) tree begun)
 
 -- the file of the task was opened, or nothing was; nothing where there is no task
 abbrev pub OpensOnly : Option Task → List (List ℕ) → List (List ℕ) → Type 0

@@ -14,6 +14,15 @@ pub record Task : Type 0 where
   pub file : List ℕ
   pub job : Job
 
+-- the name of the entry whose runs a task asks for
+abbrev pub entry_of : Job → List ℕ
+entry_of (solo entry bound) = entry
+entry_of show = []
+
+abbrev pub entry_in : Option Task → List ℕ
+entry_in None = []
+entry_in (Some task) = entry_of task.job
+
 abbrev pub is_bound : ℕ → Bool
 is_bound n = nat_le 1 n && nat_le n 1000
 

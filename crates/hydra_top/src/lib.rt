@@ -4,12 +4,15 @@
 
 mod judging;
 mod laws;
+mod names;
 pub mod outcome;
 pub mod reading;
 pub mod refusal;
+mod solving;
 pub mod text;
 pub mod top;
 pub mod trees;
+pub mod values;
 pub mod words;
 pub mod writing;
 

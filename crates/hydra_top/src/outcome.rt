@@ -3,25 +3,29 @@
 ghost use Rattle.std.specs.Prelude.{◌≡◌};
 ghost use Rattle.hydra_top.specs.Texts.{status_number};
 
-use bool_run::machine::Choice;
+use bpl_flow::FlowFault;
 use bpl_parse::ParseFault;
 use bpl_tok::LexFault;
+use bpl_type::TypeFault;
 use hy_text::Text;
 use sqlite_items::Items;
+use src_run::Choice;
 
-/// What of the input is not of the form that is built.
+/// What of the input is not built.
 #[derive(Clone, Copy, Debug, PartialEq, Eq)]
 pub enum NotBuilt {
     /// The words are neither `show` and a file, nor `solo`, a file, an entry, and a bound from 1 to 1000 in digits.
     Words,
-    /// The program is not one block of asserts and assumes over bools.
+    /// The entry is not plain: there are constants or axioms; or a variable of the program or of the entry is no bool; or the entry
+    /// has in-parameters, more than one block or a call; or its globals, outs, locals and the names in its `havoc` commands are
+    /// more than 16.
     Source,
 }
 
 /// Why the input is refused.
 #[derive(Drop)]
 pub enum Refusal {
-    /// It is not of the form.
+    /// What it asks for is not built.
     NotBuilt { part: NotBuilt },
     /// The file has more than 16,777,216 bytes.
     TooLong,
@@ -29,7 +33,11 @@ pub enum Refusal {
     Lex(LexFault),
     /// The tokens of the file are no program: the first fault.
     Parse(ParseFault),
-    /// No procedure of the file has that name.
+    /// The program has a fault of typing: the first one.
+    Typing(TypeFault),
+    /// The program has a fault of flow: the first one.
+    Flow(FlowFault),
+    /// No procedure of the file that has a body has that name.
     NoEntry { name: Text },
 }
 

@@ -1,12 +1,15 @@
 //! The texts of refusals.
 
 ghost use Rattle.std.specs.Prelude.{◌≡◌, ◌++◌, IfOk, codes};
-ghost use Rattle.hydra_top.specs.Texts.{fault_line, left_out, lex_words, line, parse_words, refusal_text};
+ghost use Rattle.hydra_top.specs.Texts.{fault_line, flow_words, left_out, lex_words, parse_words, refusal_text, type_words};
+ghost use Rattle.hydra_top.specs.Traces.{line};
 
 use crate::outcome::Refusal;
 use bpl_ast::Word;
+use bpl_flow::FlowKind;
 use bpl_parse::ParseKind;
 use bpl_tok::LexKind;
+use bpl_type::TypeKind;
 use hy_text::{Bytes, Text, put_u64};
 use std::alloc::{AllocError, Global};
 
@@ -19,6 +22,8 @@ pub fn refusal_line(alloc: Global, refusal: &Refusal) -> Result<Bytes, AllocErro
         Refusal::TooLong => Bytes::from_slice(alloc, b"refused: too long\n"),
         Refusal::Lex(fault) => fault_text(alloc, b"lex", fault.at, lex_text(fault.kind)),
         Refusal::Parse(fault) => parse_line(alloc, fault.at, fault.kind),
+        Refusal::Typing(fault) => type_line(alloc, fault.at, fault.kind),
+        Refusal::Flow(fault) => fault_text(alloc, b"flow", fault.at, flow_text(fault.kind)),
         Refusal::NoEntry { name } => no_entry(alloc, name),
     }
 }
@@ -29,6 +34,14 @@ fn parse_line(alloc: Global, at: usize, kind: ParseKind) -> Result<Bytes, AllocE
 {
     let words = parse_text(alloc, kind)?;
     fault_text(alloc, b"parse", at, words.as_slice())
+}
+
+// The line of a fault of typing.
+fn type_line(alloc: Global, at: usize, kind: TypeKind) -> Result<Bytes, AllocError>
+    ensures { IfOk result (λ t. t ≡ fault_line (codes "type") at (type_words kind)) }
+{
+    let words = type_text(alloc, kind)?;
+    fault_text(alloc, b"type", at, words.as_slice())
 }
 
 // The line of a fault of a part of the reader, at an offset, in the words of its kind.
@@ -63,12 +76,44 @@ fn parse_text(alloc: Global, kind: ParseKind) -> Result<Bytes, AllocError>
         ParseKind::Unexpected => Bytes::from_slice(alloc, b"unexpected"),
         ParseKind::EndTooSoon => Bytes::from_slice(alloc, b"end too soon"),
         ParseKind::TooDeep => Bytes::from_slice(alloc, b"too deep"),
-        ParseKind::LeftOut { what } => {
-            let mut text = Bytes::from_slice(alloc, b"left out ")?;
-            text.append(left_out_text(what))?;
-            Ok(text)
-        }
+        ParseKind::LeftOut { what } => left_out_words(alloc, what),
     }
+}
+
+fn type_text(alloc: Global, kind: TypeKind) -> Result<Bytes, AllocError>
+    ensures { IfOk result (λ t. t ≡ type_words kind) }
+{
+    match kind {
+        TypeKind::Unknown => Bytes::from_slice(alloc, b"unknown"),
+        TypeKind::Twice => Bytes::from_slice(alloc, b"twice"),
+        TypeKind::Mismatch => Bytes::from_slice(alloc, b"mismatch"),
+        TypeKind::Arity => Bytes::from_slice(alloc, b"arity"),
+        TypeKind::Width => Bytes::from_slice(alloc, b"width"),
+        TypeKind::Cyclic => Bytes::from_slice(alloc, b"cyclic"),
+        TypeKind::NotAssignable => Bytes::from_slice(alloc, b"not assignable"),
+        TypeKind::Large => Bytes::from_slice(alloc, b"large"),
+        TypeKind::LeftOut { what } => left_out_words(alloc, what),
+    }
+}
+
+fn flow_text(kind: FlowKind) -> &'static [u8]
+    ensures { result.now ≡ flow_words kind }
+{
+    match kind {
+        FlowKind::NoLabel => b"no label",
+        FlowKind::LabelTwice => b"label twice",
+        FlowKind::NotForward => b"not forward",
+        FlowKind::BreakOutside => b"break outside",
+    }
+}
+
+// The words for a form that is left out.
+fn left_out_words(alloc: Global, what: Word) -> Result<Bytes, AllocError>
+    ensures { IfOk result (λ t. t ≡ codes "left out " ++ left_out what) }
+{
+    let mut text = Bytes::from_slice(alloc, b"left out ")?;
+    text.append(left_out_text(what))?;
+    Ok(text)
 }
 
 fn left_out_text(what: Word) -> &'static [u8]

@@ -1,3 +1,8 @@
+//! What the program prints on files and words.
+
+mod flow;
+mod typing;
+
 use super::*;
 use hy_outside::{MemShelf, MemSink, Turn};
 use hy_text::{Bytes, Text};
@@ -43,6 +48,18 @@ fn run(
     Ok((report.status, out))
 }
 
+// The first of some texts on which `solo`, with the entry `main`, prints something else than what stands beside it.
+fn differs(alloc: Global, cases: &[(&[u8], &[u8])]) -> Result<Option<usize>, AllocError> {
+    let words = ["solo", "f", "main", "1"];
+    for (index, (bytes, printed)) in cases.iter().enumerate() {
+        let (_, out) = run(alloc, &words, bytes, &[], 1000, &[])?;
+        if out.held() != *printed {
+            return Ok(Some(index));
+        }
+    }
+    Ok(None)
+}
+
 #[test]
 fn outcomes_are_printed(rt: HostRuntime) -> Result<(), Fail> {
     let missing: &[u8] = b"refused: no entry main\n";
@@ -58,8 +75,13 @@ fn outcomes_are_printed(rt: HostRuntime) -> Result<(), Fail> {
         ("main", FALSE, 10, b"Bug\nfails main 1\n"),
         ("main", b"", 3, missing),
         ("p q", ASSUMED, 3, b"refused: no entry p q\n"),
-        ("main", b"var b: bv8;", 3, b"refused: not built\n"),
-        ("main", b"procedure main();", 3, b"refused: not built\n"),
+        ("main", b"var b: bv8;", 3, missing),
+        (
+            "main",
+            b"var b: bv8; procedure main() { }",
+            3,
+            b"refused: not built\n",
+        ),
     ];
     let reads = [Turn::All, Turn::AtMost(1), Turn::AtMost(2)];
     let writes = [Turn::AtMost(2), Turn::AtMost(1)];

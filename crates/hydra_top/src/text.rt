@@ -1,103 +1,82 @@
 //! The texts of traces.
 
-ghost use Rattle.std.specs.Prelude.{◌≡◌, ◌++◌, ◌∷◌, [], IfOk, OnOk, OnErr, codes, decimal};
-ghost use Rattle.hydra_top.specs.Texts.{choice_line, choice_lines, global_name, line, proc_name, trace_text, value_text};
+ghost use Rattle.std.specs.Prelude.{◌≡◌, ◌++◌, IfOk, OnOk, codes, decimal, map, slice_get};
+ghost use Rattle.hydra_top.specs.Traces.{choice_line, choice_lines, line, name_asked, names_asked, proc_name, trace_text};
+ghost use Rattle.hydra_top.specs.Values.{value_text};
 
-use bool_run::machine::Choice;
-use bool_run::prog::Prog;
-use bool_run::values::{Atom, Value};
+use crate::names::names_asked;
+use crate::values::put_value;
 use hy_text::{Bytes, put_u64};
+use hy_val::Value;
+use src_prog::Prog;
+use src_run::{Choice, Failing};
 use std::alloc::{AllocError, Global};
 
-/// The trace of a failing run: a head, a line for each choice, and the assert that is false.
-pub fn trace(
-    alloc: Global,
-    prog: &Prog,
-    choices: &[Choice],
-    proc: u32,
-    assert: u32,
-) -> Result<Bytes, AllocError>
-    ensures { IfOk result (λ t. t ≡ trace_text prog.now choices.now proc assert) }
+/// The trace of a failing run of the entry, the procedure of this number: a head, a line for each choice, and the assert that
+/// is false.
+pub fn trace(alloc: Global, prog: &Prog, entry: u32, failing: &Failing) -> Result<Bytes, AllocError>
+    ensures { IfOk result (λ t. t ≡ trace_text prog.now (names_asked prog.now (slice_get prog.now.procs entry)) failing.now.choices failing.now.proc failing.now.assert) }
 {
+    let names = names_asked(alloc, prog, entry)?;
     let mut text = Bytes::from_slice(alloc, b"Bug\n")?;
-    let lines = choices_text(alloc, prog, choices)?;
-    text.append(lines.as_slice())?;
-    let last = last_line(alloc, prog, proc, assert)?;
-    text.append(last.as_slice())?;
+    put_choices(&mut text, names.as_slice(), failing.choices.as_slice())?;
+    put_last_line(&mut text, prog, failing.proc, failing.assert)?;
     Ok(text)
 }
 
 // A line for each choice.
-fn choices_text(alloc: Global, prog: &Prog, choices: &[Choice]) -> Result<Bytes, AllocError>
-    ensures { IfOk result (λ t. t ≡ choice_lines prog.now 0 choices.now) }
+fn put_choices(text: &mut Bytes, names: &[&[u8]], choices: &[Choice]) -> Result<(), AllocError>
+    ensures { OnOk result (text.new ≡ text.old ++ choice_lines (map (λ n. n.now) names.now) 0 choices.now) }
 {
-    let mut text = Bytes::new(alloc);
     for (index, choice) in choices.iter().enumerate() {
-        let next = choice_text(alloc, prog, index, *choice)?;
-        text.append(next.as_slice())?;
+        put_choice(text, name_asked(names, index), choice)?;
     }
-    Ok(text)
+    Ok(())
 }
 
-fn choice_text(
-    alloc: Global,
-    prog: &Prog,
-    index: usize,
-    choice: Choice,
-) -> Result<Bytes, AllocError>
-    ensures { IfOk result (λ t. t ≡ choice_line prog.now index choice) }
+fn put_choice(text: &mut Bytes, name: &[u8], choice: &Choice) -> Result<(), AllocError>
+    ensures { OnOk result (text.new ≡ text.old ++ choice_line name.now choice.now) }
 {
     match choice {
-        Choice::Val(value) => value_line(alloc, global_name(prog, index), value),
-        Choice::Go(place) => place_line(alloc, place),
+        Choice::Val(value) => put_value_line(text, name, value),
+        Choice::Go(place) => put_place_line(text, *place),
     }
 }
 
-fn value_line(alloc: Global, name: &[u8], value: Value) -> Result<Bytes, AllocError>
-    ensures { IfOk result (λ t. t ≡ line (codes "v " ++ name.now ++ codes " " ++ value_text value)) }
+fn put_value_line(text: &mut Bytes, name: &[u8], value: &Value) -> Result<(), AllocError>
+    ensures { OnOk result (text.new ≡ text.old ++ line (codes "v " ++ name.now ++ codes " " ++ value_text value.now)) }
 {
-    let mut text = Bytes::from_slice(alloc, b"v ")?;
+    text.append(b"v ")?;
     text.append(name)?;
     text.append(b" ")?;
-    text.append(value_bytes(value))?;
-    text.push(b'\n')?;
-    Ok(text)
+    put_value(text, value)?;
+    text.push(b'\n')
 }
 
-fn place_line(alloc: Global, place: u32) -> Result<Bytes, AllocError>
-    ensures { IfOk result (λ t. t ≡ line (codes "g " ++ decimal place)) }
+fn put_place_line(text: &mut Bytes, place: u32) -> Result<(), AllocError>
+    ensures { OnOk result (text.new ≡ text.old ++ line (codes "g " ++ decimal place)) }
 {
-    let mut text = Bytes::from_slice(alloc, b"g ")?;
-    put_u64(&mut text, u64::from(place))?;
-    text.push(b'\n')?;
-    Ok(text)
+    text.append(b"g ")?;
+    put_u64(text, u64::from(place))?;
+    text.push(b'\n')
 }
 
-fn last_line(alloc: Global, prog: &Prog, proc: u32, assert: u32) -> Result<Bytes, AllocError>
-    ensures { IfOk result (λ t. t ≡ line (codes "fails " ++ proc_name prog.now proc ++ codes " " ++ decimal assert)) }
+fn put_last_line(text: &mut Bytes, prog: &Prog, proc: u32, assert: u32) -> Result<(), AllocError>
+    ensures { OnOk result (text.new ≡ text.old ++ line (codes "fails " ++ proc_name prog.now proc ++ codes " " ++ decimal assert)) }
 {
-    let mut text = Bytes::from_slice(alloc, b"fails ")?;
+    text.append(b"fails ")?;
     text.append(proc_name(prog, proc))?;
     text.append(b" ")?;
-    put_u64(&mut text, u64::from(assert))?;
-    text.push(b'\n')?;
-    Ok(text)
+    put_u64(text, u64::from(assert))?;
+    text.push(b'\n')
 }
 
-fn value_bytes(value: Value) -> &'static [u8]
-    ensures { result.now ≡ value_text value }
+// The name for the choice at an index.
+fn name_asked<'a>(names: &[&'a [u8]], index: usize) -> &'a [u8]
+    ensures { result.now ≡ name_asked (map (λ n. n.now) names.now) index }
 {
-    match value {
-        Value::Atom(Atom::Bool(true)) => b"true",
-        Value::Atom(Atom::Bool(false)) => b"false",
-    }
-}
-
-fn global_name(prog: &Prog, at: usize) -> &[u8]
-    ensures { result.now ≡ global_name prog.now at }
-{
-    match prog.globals().get(at) {
-        Some(global) => global.name.as_slice(),
+    match names.get(index) {
+        Some(name) => *name,
         None => &[],
     }
 }

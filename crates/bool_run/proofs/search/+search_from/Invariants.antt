@@ -1,4 +1,0 @@
-use Rattle.bool_run.proofs.search.+search_from.Given as goal
-
-abbrev pub decreases-search_from : goal.decreases-search_from
-decreases-search_from l = l.left

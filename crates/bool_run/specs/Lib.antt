@@ -1,5 +1,0 @@
-pub mod Eval
-pub mod Machine
-pub mod Program
-pub mod Search
-pub mod Shape
