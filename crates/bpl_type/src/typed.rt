@@ -55,7 +55,7 @@ pub enum TypedStmt {
     },
     /// An assignment, of which all values are evaluated first.
     Assign {
-        /// Each variable, with its new value, which has its sort. No variable stands twice.
+        /// Each variable, with its new value, which has its sort. Where one stands twice, there was a fault.
         pairs: Items<(Var, Expr)>,
     },
     /// A call.
@@ -64,7 +64,7 @@ pub enum TypedStmt {
         proc: u32,
         /// The arguments, with the sorts of the ins.
         args: Items<Expr>,
-        /// What takes the outs, with their sorts. No variable stands twice.
+        /// What takes the outs, with their sorts. Where one stands twice, there was a fault.
         outs: Items<Var>,
     },
     /// A choice between two parts.

@@ -29,6 +29,7 @@ fn has_sign(width: Width, a: u64) -> bool
     sign_bit(width) <= a
 }
 
+/// Each bit turned.
 pub fn bvnot(width: Width, a: u64) -> u64
     requires { a < 2 ^ width }
     ensures value { result ≡ bvnot width a }
@@ -37,6 +38,7 @@ pub fn bvnot(width: Width, a: u64) -> u64
     width.ones() - a
 }
 
+/// 2^width - a, modulo 2^width.
 pub fn bvneg(width: Width, a: u64) -> u64
     requires { a < 2 ^ width }
     ensures value { result ≡ bvneg width a }
@@ -45,6 +47,7 @@ pub fn bvneg(width: Width, a: u64) -> u64
     low(width, 0u64.wrapping_sub(a))
 }
 
+/// The bits that both have.
 pub fn bvand(width: Width, a: u64, b: u64) -> u64
     requires left { a < 2 ^ width }
     requires right { b < 2 ^ width }
@@ -54,6 +57,7 @@ pub fn bvand(width: Width, a: u64, b: u64) -> u64
     a & b
 }
 
+/// The bits that one of them has.
 pub fn bvor(width: Width, a: u64, b: u64) -> u64
     requires left { a < 2 ^ width }
     requires right { b < 2 ^ width }
@@ -63,6 +67,7 @@ pub fn bvor(width: Width, a: u64, b: u64) -> u64
     a | b
 }
 
+/// The bits that just one of them has.
 pub fn bvxor(width: Width, a: u64, b: u64) -> u64
     requires left { a < 2 ^ width }
     requires right { b < 2 ^ width }
@@ -72,6 +77,7 @@ pub fn bvxor(width: Width, a: u64, b: u64) -> u64
     a ^ b
 }
 
+/// The sum modulo 2^width.
 pub fn bvadd(width: Width, a: u64, b: u64) -> u64
     ensures value { result ≡ bvadd width a b }
     ensures within { result < 2 ^ width }
@@ -79,6 +85,7 @@ pub fn bvadd(width: Width, a: u64, b: u64) -> u64
     low(width, a.wrapping_add(b))
 }
 
+/// The difference modulo 2^width.
 pub fn bvsub(width: Width, a: u64, b: u64) -> u64
     requires { b < 2 ^ width }
     ensures value { result ≡ bvsub width a b }
@@ -87,6 +94,7 @@ pub fn bvsub(width: Width, a: u64, b: u64) -> u64
     low(width, a.wrapping_sub(b))
 }
 
+/// The product modulo 2^width.
 pub fn bvmul(width: Width, a: u64, b: u64) -> u64
     ensures value { result ≡ bvmul width a b }
     ensures within { result < 2 ^ width }
@@ -94,6 +102,7 @@ pub fn bvmul(width: Width, a: u64, b: u64) -> u64
     low(width, a.wrapping_mul(b))
 }
 
+/// The quotient of the numbers; all ones where b is 0.
 pub fn bvudiv(width: Width, a: u64, b: u64) -> u64
     requires { a < 2 ^ width }
     ensures value { result ≡ bvudiv width a b }
@@ -102,6 +111,7 @@ pub fn bvudiv(width: Width, a: u64, b: u64) -> u64
     if b == 0 { width.ones() } else { a / b }
 }
 
+/// The rest of the numbers; a where b is 0.
 pub fn bvurem(width: Width, a: u64, b: u64) -> u64
     requires { a < 2 ^ width }
     ensures value { result ≡ bvurem width a b }
@@ -136,6 +146,8 @@ fn signs_differ(width: Width, a: u64, b: u64) -> bool
     has_sign(width, a) != has_sign(width, b)
 }
 
+/// The quotient of the signed numbers, cut towards zero; where b is 0, that of `bvudiv` on their absolute values, with
+/// its sign.
 pub fn bvsdiv(width: Width, a: u64, b: u64) -> u64
     requires left { a < 2 ^ width }
     requires right { b < 2 ^ width }
@@ -146,6 +158,7 @@ pub fn bvsdiv(width: Width, a: u64, b: u64) -> u64
     negated_if(signs_differ(width, a, b), width, quotient)
 }
 
+/// The rest of the signed numbers, with the sign of a.
 pub fn bvsrem(width: Width, a: u64, b: u64) -> u64
     requires left { a < 2 ^ width }
     requires right { b < 2 ^ width }
@@ -156,6 +169,7 @@ pub fn bvsrem(width: Width, a: u64, b: u64) -> u64
     negated_if(has_sign(width, a), width, rest)
 }
 
+/// The rest of the signed numbers, with the sign of b.
 pub fn bvsmod(width: Width, a: u64, b: u64) -> u64
     requires left { a < 2 ^ width }
     requires right { b < 2 ^ width }
@@ -174,6 +188,7 @@ pub fn bvsmod(width: Width, a: u64, b: u64) -> u64
     }
 }
 
+/// a moved up by b places, with zeros below; 0 where b is the width or more.
 pub fn bvshl(width: Width, a: u64, b: u64) -> u64
     ensures value { result ≡ bvshl width a b }
     ensures within { result < 2 ^ width }
@@ -185,6 +200,7 @@ pub fn bvshl(width: Width, a: u64, b: u64) -> u64
     }
 }
 
+/// a moved down by b places, with zeros above; 0 where b is the width or more.
 pub fn bvlshr(width: Width, a: u64, b: u64) -> u64
     requires { a < 2 ^ width }
     ensures value { result ≡ bvlshr width a b }
@@ -193,6 +209,7 @@ pub fn bvlshr(width: Width, a: u64, b: u64) -> u64
     if b < width.bits() as u64 { a >> b } else { 0 }
 }
 
+/// a moved down by b places, with copies of its sign bit above.
 pub fn bvashr(width: Width, a: u64, b: u64) -> u64
     requires { a < 2 ^ width }
     ensures value { result ≡ bvashr width a b }
@@ -214,6 +231,7 @@ fn biased(width: Width, a: u64) -> u64
     if sign <= a { a - sign } else { a + sign }
 }
 
+/// Whether the signed number a is less than b.
 pub fn bvslt(width: Width, a: u64, b: u64) -> bool
     requires left { a < 2 ^ width }
     requires right { b < 2 ^ width }
@@ -222,6 +240,7 @@ pub fn bvslt(width: Width, a: u64, b: u64) -> bool
     biased(width, a) < biased(width, b)
 }
 
+/// Whether the signed number a is at most b.
 pub fn bvsle(width: Width, a: u64, b: u64) -> bool
     requires left { a < 2 ^ width }
     requires right { b < 2 ^ width }

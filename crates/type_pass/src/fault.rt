@@ -22,7 +22,7 @@ pub enum TypeKind {
     Cyclic,
     /// A constant or an in-parameter as a target.
     NotAssignable,
-    /// An expression of more nodes than `MAX_NODES` once functions are replaced.
+    /// An expression of more than 10,000,000 nodes once functions are replaced.
     Large,
     /// A form that is left out.
     LeftOut {
