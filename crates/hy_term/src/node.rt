@@ -3,7 +3,7 @@
 use hy_val::{Atom, BvOp, Scalar, Sort, UnOp};
 
 /// A node of terms. Its children are named by their numbers, which are lower than its own.
-#[derive(Clone, Copy, Debug, PartialEq, Eq)]
+#[derive(Clone, Copy, Debug, PartialEq, Eq, Hash)]
 pub enum TermNode {
     /// A constant value.
     Lit(Atom),

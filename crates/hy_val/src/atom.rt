@@ -6,7 +6,7 @@ use std::marker::Model;
 
 /// A bit vector: its width, and its bits as a number below 2 to the width, lowest bit first.
 /// Contracts see a `Word`, the record of the two.
-#[derive(Clone, Copy, Debug, PartialEq, Eq)]
+#[derive(Clone, Copy, Debug, PartialEq, Eq, Hash)]
 pub struct BitVec {
     width: Width,
     bits: u64,
@@ -63,14 +63,14 @@ impl BitVec {
 }
 
 /// What a value of a scalar sort is: a truth value, or a bit vector.
-#[derive(Clone, Copy, Debug, PartialEq, Eq)]
+#[derive(Clone, Copy, Debug, PartialEq, Eq, Hash)]
 pub enum AtomKind {
     Bool(bool),
     Bv(BitVec),
 }
 
 /// A value of a scalar sort. Contracts see its kind.
-#[derive(Clone, Copy, Debug, PartialEq, Eq)]
+#[derive(Clone, Copy, Debug, PartialEq, Eq, Hash)]
 pub struct Atom {
     kind: AtomKind,
 }

@@ -1,7 +1,7 @@
 //! The operators of expressions: those of bools, and SMT-LIB's of bit vectors.
 
 /// An operator with one operand. w is the width of a bit-vector operand.
-#[derive(Clone, Copy, Debug, PartialEq, Eq)]
+#[derive(Clone, Copy, Debug, PartialEq, Eq, Hash)]
 pub enum UnOp {
     /// `!a`, of a bool.
     Not,
@@ -18,7 +18,7 @@ pub enum UnOp {
 }
 
 /// An operator with two operands. Those of bit vectors from `BvAnd` on take two of one width.
-#[derive(Clone, Copy, Debug, PartialEq, Eq)]
+#[derive(Clone, Copy, Debug, PartialEq, Eq, Hash)]
 pub enum BvOp {
     /// `a && b`, of bools.
     And,

@@ -6,7 +6,7 @@ ghost use Rattle.hy_val.specs.NodeSorts.{is_sort};
 use std::marker::Model;
 
 /// The number of bits of a bit-vector sort, from 1 to 64. Contracts see the number.
-#[derive(Clone, Copy, Debug, PartialEq, Eq)]
+#[derive(Clone, Copy, Debug, PartialEq, Eq, Hash)]
 pub struct Width {
     bits: u32,
 }
@@ -67,14 +67,14 @@ impl Width {
 }
 
 /// What a scalar sort is: bool, or the bit vectors of a width.
-#[derive(Clone, Copy, Debug, PartialEq, Eq)]
+#[derive(Clone, Copy, Debug, PartialEq, Eq, Hash)]
 pub enum ScalarKind {
     Bool,
     Bv { width: Width },
 }
 
 /// A sort without maps. Contracts see its kind.
-#[derive(Clone, Copy, Debug, PartialEq, Eq)]
+#[derive(Clone, Copy, Debug, PartialEq, Eq, Hash)]
 pub struct Scalar {
     kind: ScalarKind,
 }
@@ -125,14 +125,14 @@ impl Scalar {
 }
 
 /// What a sort is: a scalar, or the maps from one scalar to another.
-#[derive(Clone, Copy, Debug, PartialEq, Eq)]
+#[derive(Clone, Copy, Debug, PartialEq, Eq, Hash)]
 pub enum SortKind {
     Scalar(Scalar),
     Map { index: Scalar, elem: Scalar },
 }
 
 /// A sort. Contracts see its kind.
-#[derive(Clone, Copy, Debug, PartialEq, Eq)]
+#[derive(Clone, Copy, Debug, PartialEq, Eq, Hash)]
 pub struct Sort {
     kind: SortKind,
 }
