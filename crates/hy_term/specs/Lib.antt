@@ -3,3 +3,4 @@ pub mod TermSorts
 pub mod Meaning
 pub mod Variables
 pub mod Laws
+pub mod Tried

@@ -2,6 +2,8 @@
 //! they are about. A term means what the expression with the same operators does.
 #![tactic(auto)]
 
+mod agreement;
+mod builder;
 mod laws;
 mod node;
 mod reduced;
@@ -11,6 +13,7 @@ mod terms;
 mod tests;
 mod variables;
 
+pub use builder::TermBuilder;
 pub use laws::{
     above_is_free, each_node_has_its_sort, each_node_has_its_value, each_value_has_its_sort,
     lists_are_assignments, lists_suffice, new_value, new_variables, plain_variables_are_scalars,

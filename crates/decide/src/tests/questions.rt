@@ -1,11 +1,10 @@
 //! Small questions with known answers.
 
 use crate::{Decision, decide};
-use hy_term::{TermNode, Terms};
+use hy_term::{TermBuilder, TermNode, Terms};
 use hy_val::{Atom, BitVec, BvOp, Scalar, Sort, UnOp, Value, Width};
 use std::alloc::{AllocError, Global};
 use std::test::Fail;
-use term_builder::TermBuilder;
 
 // `m[false] && m[true]`.
 fn both_entries(alloc: Global) -> Result<Terms, AllocError> {

@@ -1,10 +1,9 @@
 //! Small questions about maps, by number: `s == t` or `s != t` of entries of maps, alone or beside `i == j` or `i != j`.
 
 use super::digits::Digits;
-use hy_term::{TermNode, Terms};
+use hy_term::{TermBuilder, TermNode, Terms};
 use hy_val::{BvOp, Scalar, Sort, UnOp};
 use std::alloc::{AllocError, Global};
-use term_builder::TermBuilder;
 
 /// How many questions there are.
 pub const COUNT: u64 = MAPS * 2 * (MAPS + 1) * 2 * 2 * 3;

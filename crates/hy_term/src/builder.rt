@@ -2,10 +2,12 @@
 ghost use Rattle.std.specs.Prelude.{◌≡◌, [], ◌∷◌, length, true, IfOk, OnErr};
 ghost use Rattle.hy_val.specs.declared.atom.AtomKind.TheVariants.{Bool as BoolAtom};
 ghost use Rattle.hy_term.specs.TermSorts.{is_bool, sort_at};
-ghost use Rattle.term_builder.specs.Tried.{Tried, with_root};
+ghost use Rattle.hy_term.specs.Tried.{Tried, with_root};
 
 use crate::agreement::variable_agrees;
-use hy_term::{TermNode, Terms, sort_of_node};
+use crate::node::TermNode;
+use crate::sorts::sort_of_node;
+use crate::terms::Terms;
 use hy_val::{Atom, Scalar, ScalarKind, Sort, SortKind};
 use sqlite_items::{Items, at};
 use std::alloc::{AllocError, Global};

@@ -2,7 +2,7 @@
 ghost use Rattle.std.specs.Prelude.{◌≡◌};
 ghost use Rattle.hy_term.specs.TermSorts.{free_or_same, named, sort_of_number, variable_agrees};
 
-use hy_term::TermNode;
+use crate::node::TermNode;
 use hy_val::Sort;
 
 // The sort that the node gives to the variable of this number, where it is one with it.
@@ -47,7 +47,7 @@ fn free_or_same(known: Option<Sort>, sort: Sort) -> bool
 
 /// Whether the node, if it is a variable, has the sort that its number has in the nodes, where one has it. It looks
 /// through the nodes for a variable, and answers of other nodes at once.
-pub fn variable_agrees(nodes: &[TermNode], node: &TermNode) -> bool
+pub(crate) fn variable_agrees(nodes: &[TermNode], node: &TermNode) -> bool
     ensures { result ≡ variable_agrees nodes.now node.now }
 {
     match *node {

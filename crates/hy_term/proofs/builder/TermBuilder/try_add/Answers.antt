@@ -3,7 +3,7 @@ use Rattle.std.specs.Prelude.{Some}
 use Rattle.hy_val.specs.declared.sort.Sort.{Sort}
 use Rattle.hy_term.specs.TermSorts.{sort_of_node, sorts}
 use Rattle.hy_term.proofs.Sorting.{sorts_push}
-use Rattle.term_builder.proofs.builder.TermBuilder.try_add.Goals as goal
+use Rattle.hy_term.proofs.builder.TermBuilder.try_add.Goals as goal
 
 pub invariant_of-self-in-Ok : goal.invariant_of-self-in-Ok
 invariant_of-self-in-Ok c =

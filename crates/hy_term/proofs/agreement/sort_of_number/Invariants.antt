@@ -1,6 +1,6 @@
 use Rattle.std.proofs.Common.{◌≡◌, drop}
 use Rattle.hy_term.specs.TermSorts.{sort_of_number}
-use Rattle.term_builder.proofs.agreement.sort_of_number.Given as goal
+use Rattle.hy_term.proofs.agreement.sort_of_number.Given as goal
 
 -- what is left decides
 abbrev pub invariant-loop-node : goal.invariant-loop-node
