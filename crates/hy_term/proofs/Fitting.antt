@@ -63,7 +63,7 @@ abbrev pub sort_in : ℕ → List TermVariable → Option Sort
 sort_in n [] = None
 sort_in n (v ∷ vs) = or_else (named_by v n) (sort_in n vs)
 
-or_none : (o : Option Sort) → or_else o None ≡ o
+pub or_none : (o : Option Sort) → or_else o None ≡ o
 or_none None = refl
 or_none (Some s) = refl
 

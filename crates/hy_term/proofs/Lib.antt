@@ -5,3 +5,4 @@ pub mod Ordering
 pub mod Typing
 pub mod Fitting
 pub mod Placing
+pub mod Keeping

@@ -4,3 +4,4 @@ pub mod Meaning
 pub mod Variables
 pub mod Laws
 pub mod Tried
+pub mod Kept

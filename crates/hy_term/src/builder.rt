@@ -4,34 +4,36 @@ ghost use Rattle.hy_val.specs.declared.atom.AtomKind.TheVariants.{Bool as BoolAt
 ghost use Rattle.hy_term.specs.TermSorts.{is_bool, sort_at};
 ghost use Rattle.hy_term.specs.Tried.{Tried, with_root};
 
-use crate::agreement::variable_agrees;
+use crate::by_number::{agrees, note};
 use crate::node::TermNode;
 use crate::sorts::sort_of_node;
 use crate::terms::Terms;
 use hy_val::{Atom, Scalar, ScalarKind, Sort, SortKind};
+use indexmap::IndexMap;
 use sqlite_items::{Items, at};
 use std::alloc::{AllocError, Global};
 use std::marker::Model;
 
 /// The nodes of terms so far, the literal true at first. Children stand before their nodes, the sorts fit, and nodes
-/// with the same variable number have the same sort. It keeps the sort of each node, so that a new one is tried in
-/// constant time, but for a variable, whose number is looked for among the nodes. Contracts see the list of nodes.
+/// with the same variable number have the same sort. It keeps the sort of each node and of each variable by its number,
+/// so that a new node is tried in constant time. Contracts see the list of nodes.
 #[derive(Drop)]
 pub struct TermBuilder {
     terms: Terms,
     known: Items<Sort>,
+    by_number: IndexMap<usize, Sort>,
 }
 
 impl Model for TermBuilder {
-    ghost use Rattle.std.specs.Prelude.{◌≡◌, List, Some};
+    ghost use Rattle.std.specs.Prelude.{List};
     ghost use Rattle.hy_term.specs.declared.node.TermNode.{TermNode};
-    ghost use Rattle.hy_term.specs.TermSorts.{sorts};
+    ghost use Rattle.hy_term.specs.Kept.{Kept};
 
     ghost Value = { List TermNode };
 
     ghost view = { λ b. b.terms.nodes };
 
-    ghost invariant = { λ b. sorts b.terms.nodes ≡ Some b.known };
+    ghost invariant = { λ b. Kept b.terms.nodes b.known b.by_number.entries };
 }
 
 // Whether the sort is there, and that of the bools.
@@ -58,7 +60,11 @@ impl TermBuilder {
         let terms = Terms::new(alloc)?;
         let mut known = Items::new(alloc);
         known.push(Sort::scalar(Scalar::bool()))?;
-        Ok(TermBuilder { terms, known })
+        Ok(TermBuilder {
+            terms,
+            known,
+            by_number: IndexMap::new(alloc),
+        })
     }
 
     /// How many nodes there are, which is the number of the next.
@@ -85,12 +91,16 @@ impl TermBuilder {
         let Some(sort) = sort_of_node(self.known.as_slice(), &node) else {
             return Ok(None);
         };
-        if !variable_agrees(self.terms.nodes(), &node) {
+        if !agrees(&self.by_number, &node) {
             return Ok(None);
         }
+        self.by_number.reserve(1)?;
         self.known.push(sort)?;
         match self.terms.add(node) {
-            Ok(number) => Ok(Some(number)),
+            Ok(number) => {
+                note(&mut self.by_number, &node);
+                Ok(Some(number))
+            }
             Err(error) => {
                 self.known.pop();
                 Err(error)
@@ -102,7 +112,11 @@ impl TermBuilder {
     pub fn finish(self, root: usize) -> Option<Terms>
         ensures { result ≡ with_root self root }
     {
-        let TermBuilder { mut terms, known } = self;
+        let TermBuilder {
+            mut terms,
+            known,
+            by_number: _,
+        } = self;
         if is_bool(at(known.as_slice(), root).copied()) {
             terms.set_root(root);
             Some(terms)

@@ -2,8 +2,8 @@
 //! they are about. A term means what the expression with the same operators does.
 #![tactic(auto)]
 
-mod agreement;
 mod builder;
+mod by_number;
 mod laws;
 mod node;
 mod reduced;
