@@ -1,13 +1,16 @@
 -- Each entry with the next one of its map.
 use Rattle.std.proofs.Common.{◌≡◌, ◌≢◌, ℕ, zero, suc, ◌+◌, ◌-◌, ◌<◌, ◌≤◌, Bool, true, false, ◌&&◌, List, [], ◌∷◌, length, drop, arith, sym, ◌∙◌, ap, refl, subst}
-use Rattle.std.specs.Prelude.{Option, None, Some, if◌then◌else◌, slice_get, slice_set, nat_eq}
+use Rattle.std.specs.Prelude.{Option, None, Some, if◌then◌else◌, slice_get, slice_index, slice_set, nat_eq}
 use Rattle.std.specs.Option.{unwrap_or}
 use Rattle.std.proofs.lemmas.Bool.Decides.{nat_tests}
-use Rattle.std.proofs.lemmas.Option.{slice_get_within}
+use Rattle.std.proofs.lemmas.Option.{slice_get-get_or, slice_get_within}
 use Rattle.std.proofs.lemmas.List.{length-set}
+use Rattle.hy_val.specs.Table.{Table}
+use Rattle.hy_val.specs.Maps.{stored}
+use Rattle.hy_val.specs.Values.{at, atom_of}
 use Rattle.hy_val.specs.declared.value.Value.{Value}
 use Rattle.map_axioms.specs.declared.entry.Entry.{Entry}
-use Rattle.map_axioms.specs.Steps.{IsNext, LinksFrom, pairs_on, of_map}
+use Rattle.map_axioms.specs.Steps.{IsNext, LinksFrom, filled, pairs_on, of_map}
 use Rattle.map_axioms.proofs.Homes.{number_is}
 use Rattle.map_axioms.proofs.Conjoining.{pair_other, drop_at}
 
@@ -32,28 +35,36 @@ none_after (x ∷ xs) (suc k) (suc l) h low = none_after xs k l h (omega (arith,
 abbrev pub Skips : ℕ → List Entry → ℕ → ℕ → Type 0
 Skips m es a l = (k : ℕ) (x : Entry) → a ≤ k → k < l → slice_get es k ≡ Some x → nat_eq m x.map ≡ false
 
-skip_pairs_by : (vs : List Value) (p : Entry) (es : List Entry) (d a l : ℕ) (o : Option Entry) → slice_get es a ≡ o → a + d ≡ l → Skips p.map es a l
-    → (pairs_on vs p (drop a es) ≡ pairs_on vs p (drop l es)) × (of_map p (drop a es) ≡ of_map p (drop l es))
-skip_pairs_by vs p es zero a l o is end h =
-    let same : a ≡ l = omega (arith, end) in (ap (λ (k : ℕ). pairs_on vs p (drop k es)) same, ap (λ (k : ℕ). of_map p (drop k es)) same)
-skip_pairs_by vs p es (suc d) a l None is end h =
+-- what entries of other maps don't change is the same from both places
+skip_by : {X : Type 0} (f : List Entry → X) (m : ℕ) (es : List Entry) (d a l : ℕ) (o : Option Entry) → ((x : Entry) (rest : List Entry) → nat_eq m x.map ≡ false → f (x ∷ rest) ≡ f rest) → slice_get es a ≡ o → a + d ≡ l → Skips m es a l
+    → f (drop a es) ≡ f (drop l es)
+skip_by f m es zero a l o other is end h = let same : a ≡ l = omega (arith, end) in ap (λ (k : ℕ). f (drop k es)) same
+skip_by f m es (suc d) a l None other is end h =
     let low : a ≤ l = omega (arith, end) in
-    let same : drop a es ≡ drop l es = drop_none es a is ∙ sym (drop_none es l (none_after es a l is low)) in
-    (ap (pairs_on vs p) same, ap (of_map p) same)
-skip_pairs_by vs p es (suc d) a l (Some x) is end h =
-    let other : nat_eq p.map x.map ≡ false = h a x (omega arith) (omega (arith, end)) is in
-    let front : drop a es ≡ x ∷ drop (a + 1) es = drop_at es a x is in
-    let rest = skip_pairs_by vs p es d (a + 1) l (slice_get es (a + 1)) refl (omega (arith, end)) (λ k y low high there. h k y (omega (arith, low)) high there) in
-    let few : of_map p (x ∷ drop (a + 1) es) ≡ of_map p (drop (a + 1) es) = let z : 0 + of_map p (drop (a + 1) es) ≡ of_map p (drop (a + 1) es) = omega arith in ap (λ (b : Bool). (if b then 1 else 0) + of_map p (drop (a + 1) es)) other ∙ z in (
-      ap (pairs_on vs p) front ∙ ap (λ (b : Bool). b && pairs_on vs p (drop (a + 1) es)) (pair_other p x vs other) ∙ rest.0,
-      ap (of_map p) front ∙ few ∙ rest.1,
-    )
+    ap f (drop_none es a is ∙ sym (drop_none es l (none_after es a l is low)))
+skip_by f m es (suc d) a l (Some x) other is end h =
+    ap f (drop_at es a x is) ∙ other x (drop (a + 1) es) (h a x (omega arith) (omega (arith, end)) is)
+    ∙ skip_by f m es d (a + 1) l (slice_get es (a + 1)) other refl (omega (arith, end)) (λ k y low high there. h k y (omega (arith, low)) high there)
+
+skip : {X : Type 0} (f : List Entry → X) (m : ℕ) (es : List Entry) (a l : ℕ) → ((x : Entry) (rest : List Entry) → nat_eq m x.map ≡ false → f (x ∷ rest) ≡ f rest) → IsNext es m a l → f (drop a es) ≡ f (drop l es)
+skip f m es a l other h = skip_by f m es (l - a) a l (slice_get es a) other refl (let w = h.after in omega (arith, w)) h.skips
 
 pub skip_pairs : (vs : List Value) (p : Entry) (es : List Entry) (a l : ℕ) → IsNext es p.map a l → pairs_on vs p (drop a es) ≡ pairs_on vs p (drop l es)
-skip_pairs vs p es a l h = (skip_pairs_by vs p es (l - a) a l (slice_get es a) refl (let w = h.after in omega (arith, w)) h.skips).0
+skip_pairs vs p es a l h = skip (pairs_on vs p) p.map es a l (λ x rest other. ap (λ (b : Bool). b && pairs_on vs p rest) (pair_other p x vs other)) h
+
+few_by : (n : ℕ) (b : Bool) → b ≡ false → (if b then 1 else 0) + n ≡ n
+few_by n true h = cc
+few_by n false h = omega arith
 
 pub skip_few : (p : Entry) (es : List Entry) (a l : ℕ) → IsNext es p.map a l → of_map p (drop a es) ≡ of_map p (drop l es)
-skip_few p es a l h = (skip_pairs_by [] p es (l - a) a l (slice_get es a) refl (let w = h.after in omega (arith, w)) h.skips).1
+skip_few p es a l h = skip (of_map p) p.map es a l (λ x rest other. few_by (of_map p rest) (nat_eq p.map x.map) other) h
+
+pub skip_filled : (b : ℕ → Value) (vs : List Value) (n : ℕ) (m : Table) (es : List Entry) (a l : ℕ) → IsNext es n a l → filled b vs n m (drop a es) ≡ filled b vs n m (drop l es)
+skip_filled b vs n m es a l h =
+    skip (filled b vs n m) n es a l
+    (λ x rest other.
+    let test : nat_eq x.map n ≡ false = grind (arith, nat_tests, other) in
+    ap (λ (t : Bool). filled b vs n (if t then stored m (atom_of (at vs x.index)) (atom_of (b x.number)) else m) rest) test) h
 
 -- ---- the links as they are made, from the last entry on
 
@@ -84,6 +95,12 @@ links_set es ls ls' i left v e is n h new set = subst (λ (xs : List ℕ). Links
       subst (λ (y : Entry). IsNext es y.map (k + 1) l) one (subst (λ (m : ℕ). IsNext es e.map m l) from (subst (λ (m : ℕ). IsNext es e.map left m) same new)))
       (λ other old. h.next k l x (let o : k ≢ i = other in let q : i ≤ k = low in let after : i < k = grind (arith, o, q) in omega (arith, after, n)) there old);
 })
+
+pub next_one : (es : List Entry) (ls : List ℕ) (k m : ℕ) (e : Entry) → LinksFrom es ls 0 → slice_get es k ≡ Some e → e.map ≡ m → IsNext es m (k + 1) (slice_index ls k)
+next_one es ls k m e h is map =
+    let w = slice_get_within es k e is in
+    let n = h.count in
+    subst (λ (x : ℕ). IsNext es x (k + 1) (slice_index ls k)) map (h.next k (slice_index ls k) e (omega arith) is (slice_get-get_or ls k 0 (omega (arith, n, w))))
 
 pub next_last : (es : List Entry) (m : ℕ) → IsNext es m (length es) (length es)
 next_last es m = record {

@@ -1,7 +1,6 @@
 -- The values of the source's variables, as the code makes them.
-use Rattle.std.proofs.Common.{◌≡◌, ◌≢◌, ℕ, zero, suc, ◌≤◌, Bool, true, false, List, [], ◌∷◌, ◌++◌, map, length, drop, arith, sym, ◌∙◌, ap, refl, subst, append_assoc, append-nil}
+use Rattle.std.proofs.Common.{◌≡◌, ℕ, zero, suc, ◌≤◌, Bool, true, false, List, [], ◌∷◌, ◌++◌, map, length, drop, arith, sym, ◌∙◌, ap, refl, subst, append_assoc, append-nil}
 use Rattle.std.specs.Prelude.{Option, Some, if◌then◌else◌, slice_get, IsTrue, nat_eq, nat_lt}
-use Rattle.std.proofs.lemmas.Bool.Decides.{nat_tests}
 use Rattle.hy_val.specs.Sorts.{has_scalar}
 use Rattle.hy_val.specs.Table.{Table}
 use Rattle.hy_val.specs.Maps.{stored}
@@ -89,21 +88,12 @@ fill_true : (t : Bool) (m m' : Table) → t ≡ true → (if t then m else m') �
 fill_true true m m' h = refl
 fill_true false m m' h = cc
 
-fill_false : (t : Bool) (m m' : Table) → t ≡ false → (if t then m else m') ≡ m'
-fill_false true m m' h = cc
-fill_false false m m' h = refl
-
 pub fill_then : (b : ℕ → Value) (vs : List Value) (n : ℕ) (m m' : Table) (es rest : List Entry) (e : Entry) (x y : Atom) → es ≡ e ∷ rest → e.map ≡ n → AtomValue x ≡ at vs e.index → AtomValue y ≡ b e.number → m' ≡ stored m x y
     → filled b vs n m' rest ≡ filled b vs n m es
 fill_then b vs n m m' es rest e x y is map value entry made =
     ap (λ (t : Table). filled b vs n t rest)
     (made ∙ ap (λ (v : Value). stored m (atom_of v) y) value ∙ ap (λ (v : Value). stored m (atom_of (at vs e.index)) (atom_of v)) entry
     ∙ sym (fill_true (nat_eq e.map n) (stored m (atom_of (at vs e.index)) (atom_of (b e.number))) m (ap (nat_eq e.map) (sym map) ∙ same_number e.map)))
-    ∙ ap (filled b vs n m) (sym is)
-
-pub fill_else : (b : ℕ → Value) (vs : List Value) (n : ℕ) (m : Table) (es rest : List Entry) (e : Entry) → es ≡ e ∷ rest → e.map ≢ n → filled b vs n m rest ≡ filled b vs n m es
-fill_else b vs n m es rest e is other =
-    ap (λ (t : Table). filled b vs n t rest) (sym (fill_false (nat_eq e.map n) (stored m (atom_of (at vs e.index)) (atom_of (b e.number))) m (grind (arith, nat_tests, other))))
     ∙ ap (filled b vs n m) (sym is)
 
 pub fill_fits : (b : ℕ → Value) (vs : List Value) (n : ℕ) (index elem : Scalar) (es : List Entry) (m m' : Table) (j : ℕ) (e : Entry) (x y : Atom) → Fillable b vs n index elem es → IsFilled m index elem → slice_get es j ≡ Some e

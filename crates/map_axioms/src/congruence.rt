@@ -1,17 +1,14 @@
 //! Congruence: entries of one map at equal indexes are equal.
 ghost use Rattle.std.specs.Prelude.{◌≡◌, ◌≤◌, ◌+◌, ◌*◌, length, drop, nat_eq, slice_get, if◌then◌else◌, Some, IfOk, OnOk};
-ghost use Rattle.std.specs.Option.{unwrap_or};
 ghost use Rattle.hy_val.specs.declared.sort.ScalarKind.TheVariants.{Bool as BoolSort};
 ghost use Rattle.hy_val.specs.declared.sort.SortKind.TheVariants.{Scalar as ScalarSort};
 ghost use Rattle.hy_term.specs.TermSorts.{sort_at};
-ghost use Rattle.indexmap.specs.IndexMap.{get};
 ghost use Rattle.map_axioms.specs.Steps.{Conjoined, EntryKept, LinksFrom, State, congruent, of_map, pair_on, pairs, pairs_on};
 
 use crate::entry::Entry;
+use crate::links::links;
 use hy_term::{TermNode, Terms};
 use hy_val::BvOp;
-use indexmap::IndexMap;
-use sqlite_items::Items;
 use std::alloc::{AllocError, Global};
 
 // Of two entries of one map: equal indexes have equal entries. Others need nothing.
@@ -56,37 +53,6 @@ fn with_pair(
         right: implied,
     })?;
     Ok(both)
-}
-
-// The place of the next entry of a map; the count of all entries where there is none.
-fn next_of(next: &IndexMap<usize, usize>, map: usize, count: usize) -> usize
-    ensures { result ≡ unwrap_or (get nat_eq next.now map) count }
-{
-    match next.get(&map) {
-        None => count,
-        Some(place) => *place,
-    }
-}
-
-// For each entry the place of the next one of its map; the count of all entries where there is none.
-fn links(alloc: Global, entries: &[Entry]) -> Result<Items<usize>, AllocError>
-    ensures { IfOk result (λ ls. LinksFrom entries.now ls 0) }
-{
-    let count = entries.len();
-    let mut links = Items::new(alloc);
-    'fill: while links.len() < count {
-        links.push(count)?;
-    }
-    let mut next = IndexMap::new(alloc);
-    let mut left = count;
-    'back: while left > 0 {
-        left -= 1;
-        let map = entries[left].map;
-        let later = next_of(&next, map, count);
-        links.set(left, later);
-        next.insert(map, left)?;
-    }
-    Ok(links)
 }
 
 // The same of the entry at a place and each later one of its map.

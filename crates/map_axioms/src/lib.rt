@@ -6,6 +6,7 @@ mod entries;
 mod entry;
 mod firsts;
 mod lifting;
+mod links;
 mod node;
 mod plan;
 mod reduction;

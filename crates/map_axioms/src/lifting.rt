@@ -1,12 +1,15 @@
 //! The way back: values of the source's variables from those of the reduced terms' variables.
-ghost use Rattle.std.specs.Prelude.{◌≡◌, [], true, length, map, Some, IfOk, IsTrue};
+ghost use Rattle.std.specs.Prelude.{◌≡◌, [], true, length, map, nat_eq, Some, IfOk, IsTrue};
 ghost use Rattle.hy_term.specs.TermSorts.{sort_of_number};
 ghost use Rattle.hy_term.specs.Meaning.{fits, holds, values};
 ghost use Rattle.hy_term.specs.Variables.{ascend, numbers, numbers_of, of_list, variables};
+ghost use Rattle.indexmap.specs.IndexMap.{get};
+ghost use Rattle.map_axioms.specs.Lifting.{FirstsFrom};
 ghost use Rattle.map_axioms.specs.Reduction.{AgreeOnScalars, of_atoms};
-ghost use Rattle.map_axioms.specs.Steps.{Fillable, IsPlan, atom_values, chosen_by, filled, lifted};
+ghost use Rattle.map_axioms.specs.Steps.{Fillable, IsPlan, LinksFrom, atom_values, chosen_by, filled, lifted};
 
 use crate::entry::Entry;
+use crate::links::{Chains, linked, place_for};
 use crate::plan::Plan;
 use crate::values::{atom_at, atom_of, atoms_of};
 use hy_term::{TermVariable, Terms, variables_of};
@@ -14,28 +17,34 @@ use hy_val::{Atom, MapValue, Scalar, SortKind, Value, store};
 use sqlite_items::Items;
 use std::alloc::{AllocError, Global};
 
-// The map of a map variable: the entries that were asked for, and zero elsewhere.
+// The map of a map variable: the entries that were asked for, and zero elsewhere. Only its own entries are visited, so all
+// maps together visit each entry once.
 fn filled(
     alloc: Global,
     variables: &[TermVariable],
     atoms: &[Atom],
     known: &[Atom],
     entries: &[Entry],
+    links: &Chains,
     number: usize,
     index: Scalar,
     elem: Scalar,
 ) -> Result<MapValue, AllocError>
     requires ascend { IsTrue (ascend (numbers_of variables.now)) }
     requires sorts { Fillable (chosen_by variables.now atoms.now) (atom_values known.now) number index elem entries.now }
+    requires next { LinksFrom entries.now links.now.next 0 }
+    requires firsts { FirstsFrom entries.now (get nat_eq links.now.firsts) 0 }
     ensures { IfOk result (λ m. m ≡ filled (chosen_by variables.now atoms.now) (atom_values known.now) number (record { index = index; elem = elem; pairs = [] }) entries.now) }
 {
     let mut map = MapValue::zero(alloc, index, elem);
-    for entry in entries {
-        if entry.map == number {
-            let place = atom_at(known, entry.index);
-            let value = atom_of(variables, atoms, entry.number);
-            store(&mut map, place, value)?;
-        }
+    let later = links.next.as_slice();
+    let mut next = place_for(&links.firsts, number, entries.len());
+    'fill: while next < entries.len() {
+        let entry = entries[next];
+        let place = atom_at(known, entry.index);
+        let value = atom_of(variables, atoms, entry.number);
+        store(&mut map, place, value)?;
+        next = later[next];
     }
     Ok(map)
 }
@@ -46,6 +55,7 @@ fn lifted_value(
     source: &Terms,
     reduced: &Terms,
     entries: &[Entry],
+    links: &Chains,
     variables: &[TermVariable],
     atoms: &[Atom],
     known: &[Atom],
@@ -55,6 +65,8 @@ fn lifted_value(
     requires ascend { IsTrue (ascend (numbers_of variables.now)) }
     requires fits { IsTrue (fits (chosen_by variables.now atoms.now) reduced.now.nodes) }
     requires known { atom_values known.now ≡ values (chosen_by variables.now atoms.now) reduced.now.nodes }
+    requires next { LinksFrom entries.now links.now.next 0 }
+    requires firsts { FirstsFrom entries.now (get nat_eq links.now.firsts) 0 }
     requires sort { sort_of_number variable.number source.now.nodes ≡ Some variable.sort }
     ensures { IfOk result (λ v. v ≡ lifted source.now.nodes reduced.now.nodes entries.now (chosen_by variables.now atoms.now) variable.number) }
 {
@@ -64,7 +76,9 @@ fn lifted_value(
         SortKind::Scalar(_) => Ok(Value::Atom(atom_of(variables, atoms, variable.number))),
         SortKind::Map { index, elem } => {
             let number = variable.number;
-            let map = filled(alloc, variables, atoms, known, entries, number, index, elem)?;
+            let map = filled(
+                alloc, variables, atoms, known, entries, links, number, index, elem,
+            )?;
             Ok(Value::Map(map))
         }
     }
@@ -87,12 +101,13 @@ fn lifted_values(
     let variables = ours.as_slice();
     let values = atoms_of(alloc, variables, atoms, nodes)?;
     let known = values.as_slice();
+    let links = linked(alloc, entries)?;
     let theirs = variables_of(alloc, source.nodes())?;
     let wanted = theirs.as_slice();
     let mut lifted = Items::new(alloc);
     for variable in wanted {
         let value = lifted_value(
-            alloc, source, reduced, entries, variables, atoms, known, *variable,
+            alloc, source, reduced, entries, &links, variables, atoms, known, *variable,
         )?;
         lifted.push(value)?;
     }

@@ -7,14 +7,14 @@ use Rattle.indexmap.specs.IndexMap.{get}
 use Rattle.map_axioms.specs.declared.entry.Entry.{Entry}
 use Rattle.map_axioms.specs.Steps.{IsNext}
 use Rattle.map_axioms.proofs.Linking.{links_last, links_set, next_last, next_moved}
-use Rattle.map_axioms.proofs.congruence.links.Goals as goal
+use Rattle.map_axioms.proofs.links.linked.Goals as goal
 
 pub back-init : goal.back-init
 back-init c = record {
   within = omega arith;
-  links = links_last c.args.entries.now c.fill.links (length c.args.entries.now) (omega (arith, c.fill.invariant, c.fill-test.false, c.len.ensures)) refl;
-  next = λ m.
-      subst (λ (found : List (ℕ × ℕ)). IsNext c.args.entries.now m (length c.args.entries.now) (unwrap_or (lookup (nat_eq m) found) (length c.args.entries.now))) (sym c.new-next.ensures.empty)
+  links = links_last c.args.entries.now c.in_ok-next.next (length c.args.entries.now) c.in_ok-next.ensures refl;
+  firsts = λ m.
+      subst (λ (found : List (ℕ × ℕ)). IsNext c.args.entries.now m (length c.args.entries.now) (unwrap_or (lookup (nat_eq m) found) (length c.args.entries.now))) (sym c.new-firsts.ensures.empty)
       (next_last c.args.entries.now m);
 }
 
@@ -32,7 +32,7 @@ back-preserved c =
     record {
       within = omega (arith, within);
       links =
-          links_set c.args.entries.now c.back.links c.set.new.self (c.back.left - 1) c.back.left c.next_of-later.result x there n c.back.invariant.links
-          (subst (λ (k : ℕ). IsNext c.args.entries.now x.map c.back.left k) (sym c.next_of-later.ensures) (c.back.invariant.next x.map)) c.set.ensures;
-      next = next_moved c.args.entries.now (c.back.left - 1) c.back.left x (get nat_eq c.back.next) (get nat_eq c.insert.new.self) there n c.back.invariant.next c.in_ok-insert.ensures.updates.0;
+          links_set c.args.entries.now c.back.next c.set.new.self (c.back.left - 1) c.back.left c.place_for-later.result x there n c.back.invariant.links
+          (subst (λ (k : ℕ). IsNext c.args.entries.now x.map c.back.left k) (sym c.place_for-later.ensures) (c.back.invariant.firsts x.map)) c.set.ensures;
+      firsts = next_moved c.args.entries.now (c.back.left - 1) c.back.left x (get nat_eq c.back.firsts) (get nat_eq c.insert.new.self) there n c.back.invariant.firsts c.in_ok-insert.ensures.updates.0;
     }
