@@ -1,5 +1,5 @@
 -- Congruence, pair by pair.
-use Rattle.std.proofs.Common.{◌≡◌, ℕ, zero, suc, ◌+◌, ◌≤◌, Bool, true, false, ◌&&◌, List, [], ◌∷◌, ◌++◌, length, drop, arith, sym, ◌∙◌, ap, refl, subst}
+use Rattle.std.proofs.Common.{◌≡◌, ℕ, zero, suc, ◌+◌, ◌≤◌, Bool, true, false, ◌&&◌, List, [], ◌∷◌, length, drop, arith, sym, ◌∙◌, ap, refl}
 use Rattle.std.specs.Prelude.{Some, if◌then◌else◌, slice_get, IsTrue, is_some, nat_eq}
 use Rattle.hy_val.specs.Operators.{apply, sort_of_binary}
 use Rattle.hy_val.specs.Values.{at, atom_of, is_on, is_true_atom, binary_value}
@@ -15,13 +15,14 @@ use Rattle.hy_term.specs.TermSorts.{sort_at, sort_behind, sort_of_number, fits_b
 use Rattle.hy_term.specs.Meaning.{values, value}
 use Rattle.hy_term.specs.declared.node.TermNode.{TermNode}
 use Rattle.hy_term.specs.declared.node.TermNode.TheVariants.{Binary}
-use Rattle.hy_term.proofs.Growing.{value-new}
 use Rattle.hy_term.proofs.Sorting.{and_both}
 use Rattle.map_axioms.specs.declared.entry.Entry.{Entry}
+use Rattle.map_axioms.specs.Shared.{Shared}
 use Rattle.map_axioms.specs.Steps.{EntryKept, Later, State, pair_on, pairs_on, congruent, Conjoined, AllKept}
-use Rattle.map_axioms.proofs.Cases.{sort_added, sort_within, behind_binary}
+use Rattle.map_axioms.proofs.Cases.{sort_within, behind_binary}
 use Rattle.map_axioms.proofs.Homes.{same_number}
-use Rattle.map_axioms.proofs.Standing.{some_is, value_later, sort_later, entry_later, later_same, later_then, later_push, state_push}
+use Rattle.map_axioms.proofs.Standing.{some_is, value_later, sort_later, entry_later, later_same, later_then}
+use Rattle.map_axioms.proofs.Sharing.{given}
 use Rattle.map_axioms.proofs.Rows.{eq_fits}
 
 -- ---- one binary node more
@@ -36,22 +37,11 @@ pub record BinaryStep (base : ℕ) (nodes out : List TermNode) (es : List Entry)
   pub sort : sort_at out' t ≡ Some (ScalarSort u)
   pub is : (b : ℕ → Value) → value b out' t ≡ binary_value op (value b out l) (value b out r)
 
-step_by : (base : ℕ) (nodes out : List TermNode) (es : List Entry) (op : BvOp) (l r : ℕ) (s t u : Scalar) → State base nodes out es → sort_at out l ≡ Some (ScalarSort s) → sort_at out r ≡ Some (ScalarSort t)
-    → sort_of_binary op s t ≡ Some u → BinaryStep base nodes out es (out ++ Binary op l r ∷ []) (length out) op l r u
-step_by base nodes out es op l r s t u st h k e =
-    let behind = behind_binary out op l r s t u h k e in
-    record {
-      state = state_push base nodes out es (Binary op l r) (ScalarSort u) st behind tt;
-      later = later_push base nodes out es (Binary op l r) (ScalarSort u) st behind;
-      sort = sort_added out (Binary op l r) (ScalarSort u) behind;
-      is = λ b. value-new b out (Binary op l r);
-    }
-
 pub binary_step : (base : ℕ) (nodes out : List TermNode) (es : List Entry) (out' : List TermNode) (n : ℕ) (op : BvOp) (l r : ℕ) (s t u : Scalar) → State base nodes out es → sort_at out l ≡ Some (ScalarSort s)
-    → sort_at out r ≡ Some (ScalarSort t) → sort_of_binary op s t ≡ Some u → out' ≡ out ++ Binary op l r ∷ [] → n ≡ length out → BinaryStep base nodes out es out' n op l r u
-binary_step base nodes out es out' n op l r s t u st h k e is_out is_n =
-    subst (λ (x : ℕ). BinaryStep base nodes out es out' x op l r u) (sym is_n)
-    (subst (λ (ns : List TermNode). BinaryStep base nodes out es ns (length out) op l r u) (sym is_out) (step_by base nodes out es op l r s t u st h k e))
+    → sort_at out r ≡ Some (ScalarSort t) → sort_of_binary op s t ≡ Some u → Shared out (Binary op l r) out' n → BinaryStep base nodes out es out' n op l r u
+binary_step base nodes out es out' n op l r s t u st h k e shared =
+    let g = given base nodes out es (Binary op l r) (ScalarSort u) st (behind_binary out op l r s t u h k e) tt out' n shared in
+    record { state = g.state; later = g.later; sort = g.sort; is = g.is }
 
 -- ---- one pair more
 
@@ -124,10 +114,10 @@ module _ (base : ℕ) (nodes out : List TermNode) (es : List Entry) (all : ℕ) 
   pub first_fits : IsTrue (fits_behind out (Binary Eq p.index q.index))
   first_fits = let m = one_map base nodes out es p q k j same in binary_fits out Eq p.index q.index m.index m.index BoolSort m.index_p m.index_q (eq_fits m.index)
 
-  pub first_step : (out1 : List TermNode) (t1 : ℕ) → out1 ≡ out ++ Binary Eq p.index q.index ∷ [] → t1 ≡ length out → BinaryStep base nodes out es out1 t1 Eq p.index q.index BoolSort
-  first_step out1 t1 is n =
+  pub first_step : (out1 : List TermNode) (t1 : ℕ) → Shared out (Binary Eq p.index q.index) out1 t1 → BinaryStep base nodes out es out1 t1 Eq p.index q.index BoolSort
+  first_step out1 t1 shared =
       let m = one_map base nodes out es p q k j same in
-      binary_step base nodes out es out1 t1 Eq p.index q.index m.index m.index BoolSort st m.index_p m.index_q (eq_fits m.index) is n
+      binary_step base nodes out es out1 t1 Eq p.index q.index m.index m.index BoolSort st m.index_p m.index_q (eq_fits m.index) shared
 
   module _ (out1 : List TermNode) (t1 : ℕ) (s1 : BinaryStep base nodes out es out1 t1 Eq p.index q.index BoolSort) where
     pub second_fits : IsTrue (fits_behind out1 (Binary Eq p.entry q.entry))
@@ -135,18 +125,18 @@ module _ (base : ℕ) (nodes out : List TermNode) (es : List Entry) (all : ℕ) 
         let m = one_map base nodes out es p q k j same in
         binary_fits out1 Eq p.entry q.entry m.elem m.elem BoolSort (sort_later out es out1 es s1.later p.entry (ScalarSort m.elem) m.entry_p) (sort_later out es out1 es s1.later q.entry (ScalarSort m.elem) m.entry_q) (eq_fits m.elem)
 
-    pub second_step : (out2 : List TermNode) (t2 : ℕ) → out2 ≡ out1 ++ Binary Eq p.entry q.entry ∷ [] → t2 ≡ length out1 → BinaryStep base nodes out1 es out2 t2 Eq p.entry q.entry BoolSort
-    second_step out2 t2 is n =
+    pub second_step : (out2 : List TermNode) (t2 : ℕ) → Shared out1 (Binary Eq p.entry q.entry) out2 t2 → BinaryStep base nodes out1 es out2 t2 Eq p.entry q.entry BoolSort
+    second_step out2 t2 shared =
         let m = one_map base nodes out es p q k j same in
         binary_step base nodes out1 es out2 t2 Eq p.entry q.entry m.elem m.elem BoolSort s1.state (sort_later out es out1 es s1.later p.entry (ScalarSort m.elem) m.entry_p)
-        (sort_later out es out1 es s1.later q.entry (ScalarSort m.elem) m.entry_q) (eq_fits m.elem) is n
+        (sort_later out es out1 es s1.later q.entry (ScalarSort m.elem) m.entry_q) (eq_fits m.elem) shared
 
     module _ (out2 : List TermNode) (t2 : ℕ) (s2 : BinaryStep base nodes out1 es out2 t2 Eq p.entry q.entry BoolSort) where
       pub third_fits : IsTrue (fits_behind out2 (Binary Implies t1 t2))
       third_fits = binary_fits out2 Implies t1 t2 BoolSort BoolSort BoolSort (sort_later out1 es out2 es s2.later t1 (ScalarSort BoolSort) s1.sort) s2.sort refl
 
-      pub third_step : (out3 : List TermNode) (t3 : ℕ) → out3 ≡ out2 ++ Binary Implies t1 t2 ∷ [] → t3 ≡ length out2 → BinaryStep base nodes out2 es out3 t3 Implies t1 t2 BoolSort
-      third_step out3 t3 is n = binary_step base nodes out2 es out3 t3 Implies t1 t2 BoolSort BoolSort BoolSort s2.state (sort_later out1 es out2 es s2.later t1 (ScalarSort BoolSort) s1.sort) s2.sort refl is n
+      pub third_step : (out3 : List TermNode) (t3 : ℕ) → Shared out2 (Binary Implies t1 t2) out3 t3 → BinaryStep base nodes out2 es out3 t3 Implies t1 t2 BoolSort
+      third_step out3 t3 shared = binary_step base nodes out2 es out3 t3 Implies t1 t2 BoolSort BoolSort BoolSort s2.state (sort_later out1 es out2 es s2.later t1 (ScalarSort BoolSort) s1.sort) s2.sort refl shared
 
       module _ (out3 : List TermNode) (t3 : ℕ) (s3 : BinaryStep base nodes out2 es out3 t3 Implies t1 t2 BoolSort) where
         to_third : Later out es out3 es
@@ -166,9 +156,9 @@ module _ (base : ℕ) (nodes out : List TermNode) (es : List Entry) (all : ℕ) 
             ∙ ap (λ (v : Value). binary_value Eq (value b out p.entry) v) (value_later out es out1 es s1.later b q.entry (sort_within out q.entry (ScalarSort m.elem) m.entry_q))))
             ∙ sym (pair_same p q (values b out) same)
 
-        pub fourth : (out4 : List TermNode) (t4 : ℕ) → out4 ≡ out3 ++ Binary And all t3 ∷ [] → t4 ≡ length out3 → Conjoined base nodes out es out4 all t4 (λ vs. pair_on vs p q)
-        fourth out4 t4 is n =
-            let s4 = binary_step base nodes out3 es out4 t4 And all t3 BoolSort BoolSort BoolSort s3.state (sort_later out es out3 es to_third all (ScalarSort BoolSort) bool) s3.sort refl is n in
+        pub fourth : (out4 : List TermNode) (t4 : ℕ) → Shared out3 (Binary And all t3) out4 t4 → Conjoined base nodes out es out4 all t4 (λ vs. pair_on vs p q)
+        fourth out4 t4 shared =
+            let s4 = binary_step base nodes out3 es out4 t4 And all t3 BoolSort BoolSort BoolSort s3.state (sort_later out es out3 es to_third all (ScalarSort BoolSort) bool) s3.sort refl shared in
             record {
               state = s4.state;
               later = later_then out es out3 es out4 es to_third s4.later;

@@ -1,5 +1,5 @@
 -- How many nodes and entries there are.
-use Rattle.std.proofs.Common.{◌≡◌, ℕ, zero, suc, ◌+◌, ◌*◌, ◌^◌, ◌<◌, ◌≤◌, ◌-◌, ◌≢◌, Bool, true, false, ◌&&◌, List, [], ◌∷◌, ◌++◌, length, arith, sym, ◌∙◌, ap, refl, length-append}
+use Rattle.std.proofs.Common.{◌≡◌, ℕ, zero, suc, ◌+◌, ◌*◌, ◌^◌, ◌<◌, ◌≤◌, ◌-◌, ◌≢◌, Bool, true, false, ◌&&◌, List, [], ◌∷◌, length, arith, sym, ◌∙◌, ap, refl}
 use Rattle.std.specs.Prelude.{Option, None, Some, is_some, if◌then◌else◌, slice_get, nat_eq, nat_lt}
 use Rattle.std.proofs.lemmas.Bool.Decides.{nat_tests}
 use Rattle.std.proofs.Math.Nat.{mul-le-mul_left, mul-one, pow-succ', pow-zero}
@@ -10,14 +10,9 @@ use Rattle.map_axioms.specs.Steps.{asked, found, sum_below, known_at, known, Apa
 use Rattle.map_axioms.proofs.Cases.{sort_within}
 use Rattle.map_axioms.proofs.Homes.{number_is}
 
-pub four_more : (a b c d e : List TermNode) (w x y z : TermNode) (t : Bool) → t ≡ true → b ≡ a ++ w ∷ [] → c ≡ b ++ x ∷ [] → d ≡ c ++ y ∷ [] → e ≡ d ++ z ∷ [] → length e ≤ length a + 4 * (if t then 1 else 0)
-four_more a b c d e w x y z false test p q r s = cc
-four_more a b c d e w x y z true test p q r s =
-    let i : length b ≡ length a + 1 = ap length p ∙ length-append a (w ∷ []) in
-    let j : length c ≡ length b + 1 = ap length q ∙ length-append b (x ∷ []) in
-    let k : length d ≡ length c + 1 = ap length r ∙ length-append c (y ∷ []) in
-    let l : length e ≡ length d + 1 = ap length s ∙ length-append d (z ∷ []) in
-    omega (arith, i, j, k, l)
+pub four_more : (a b c d e : ℕ) (t : Bool) → t ≡ true → b ≤ a + 1 → c ≤ b + 1 → d ≤ c + 1 → e ≤ d + 1 → e ≤ a + 4 * (if t then 1 else 0)
+four_more a b c d e false test p q r s = cc
+four_more a b c d e true test p q r s = omega (arith, p, q, r, s)
 
 -- ---- entries of one map are at different nodes, so there are at most as many as nodes
 

@@ -51,14 +51,6 @@ number_stays n xs ys s h = number_append n xs ys ∙ ap (λ (o : Option Sort). o
 named_itself : (n : ℕ) (s : Sort) → named n (Variable n s) ≡ Some s
 named_itself n s = ap (λ (b : Bool). if b then Some s else None) (same_number n)
 
--- the variable that is added has its sort, where its number had none or that one
-pub number_new : (n : ℕ) (xs : List TermNode) (s : Sort) → ((t : Sort) → sort_of_number n xs ≡ Some t → t ≡ s) → sort_of_number n (xs ++ Variable n s ∷ []) ≡ Some s
-number_new n xs s same = number_append n xs (Variable n s ∷ []) ∙ ap (λ (o : Option Sort). or_else (sort_of_number n xs) (or_else o None)) (named_itself n s) ∙ by_first (sort_of_number n xs) same
-  where
-    by_first : (o : Option Sort) → ((t : Sort) → o ≡ Some t → t ≡ s) → or_else o (Some s) ≡ Some s
-    by_first None h = refl
-    by_first (Some t) h = ap Some (h t refl)
-
 first_or_same : (o : Option Sort) (s : Sort) (p : Option Sort) → free_or_same o s ≡ true → or_else o (or_else (Some s) p) ≡ Some s
 first_or_same None s p h = refl
 first_or_same (Some t) s p h = ap Some (same_sort_is t s h)

@@ -3,6 +3,8 @@ pub mod Homes
 pub mod Standing
 pub mod Storing
 pub mod Nodes
+pub mod Numbers
+pub mod Sharing
 pub mod Rows
 pub mod Conjoining
 pub mod Looking

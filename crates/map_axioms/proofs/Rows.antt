@@ -25,13 +25,15 @@ use Rattle.hy_term.specs.Meaning.{value}
 use Rattle.hy_term.specs.Variables.{below}
 use Rattle.hy_term.specs.declared.node.TermNode.{TermNode}
 use Rattle.hy_term.specs.declared.node.TermNode.TheVariants.{Lit, ZeroMap, Variable, Unary, Binary, If, Select, Store}
-use Rattle.hy_term.proofs.Growing.{node_values, value-new}
+use Rattle.hy_term.proofs.Growing.{node_values}
 use Rattle.hy_term.proofs.Sorting.{and_left, and_right}
 use Rattle.map_axioms.specs.declared.entry.Entry.{Entry}
+use Rattle.map_axioms.specs.Shared.{Shared}
 use Rattle.map_axioms.specs.Steps.{entry_number, home, Stands, EntryKept, Later, State, IsReduced, AllReduced, renamed, Placed, Taken, IsAsked, asked, found, Apart, EntryStands, row_at, MapsKnown, RowsStand, Read, IsRow}
-use Rattle.map_axioms.proofs.Cases.{case_at, unary_case, binary_case, if_case, select_case, store_case, sort_added}
-use Rattle.map_axioms.proofs.Homes.{number_at, number_new, below_at, home_number, home_source, home_entry, number_is, same_number}
-use Rattle.map_axioms.proofs.Standing.{stands_later, entry_later, later_same, later_push, state_push, Addable, placed, addable_binary, addable_if, stands_as, reduced_later}
+use Rattle.map_axioms.proofs.Cases.{case_at, unary_case, binary_case, if_case, select_case, store_case}
+use Rattle.map_axioms.proofs.Homes.{number_at, below_at, home_number, home_source, home_entry, number_is, same_number}
+use Rattle.map_axioms.proofs.Standing.{stands_later, entry_later, later_same, Addable, addable_binary, addable_if, stands_as, reduced_later}
+use Rattle.map_axioms.proofs.Sharing.{given, placed, stands_at, number_there}
 use Rattle.map_axioms.proofs.Storing.{select_of_store, select_of_pick}
 use Rattle.map_axioms.proofs.Nodes.{Ground, addable_node, addable_as, is_select, behind_leaf, if_is, if_this, sound_at, has_its_sort}
 
@@ -42,22 +44,23 @@ no_scalar P s i e h = absurd (let no : ScalarSort s ≡ MapSort i e → ⊥ = λ
 
 module _ (base : ℕ) (nodes out : List TermNode) (es : List Entry) (reds : List ℕ) (g : Ground base nodes out es reds) where
   pub taken_node : (node : TermNode) (s : Scalar) → sort_at nodes (length reds) ≡ Some (ScalarSort s) → slice_get nodes (length reds) ≡ Some node → is_select node ≡ false
-      → Taken base nodes out es (out ++ renamed reds node ∷ []) es (length reds) (length out)
-  taken_node node s h is other =
+      → (out' : List TermNode) (k : ℕ) → Shared out (renamed reds node) out' k → Taken base nodes out es out' es (length reds) k
+  taken_node node s h is other out' k shared =
       let a = addable_node base nodes out es reds g node s h is other in
-      let p = placed base nodes out es (renamed reds node) s (λ a. value a nodes (length reds)) g.state a in
+      let p = placed base nodes out es out' (renamed reds node) s k (λ a. value a nodes (length reds)) g.state a shared in
+      let there = stands_at out (renamed reds node) out' k shared in
       record {
         state = p.state;
         later = p.later;
         red = record {
           stands = λ t e.
               let same : s ≡ t = cc in
-              subst (λ (r : Scalar). Stands nodes (out ++ renamed reds node ∷ []) es r (length out) (λ a. value a nodes (length reds))) same p.stands;
+              subst (λ (r : Scalar). Stands nodes out' es r k (λ a. value a nodes (length reds))) same p.stands;
           variable = λ n t e.
               let same : node ≡ Variable n (ScalarSort t) = cc in
               let mine : home base nodes n ≡ Some (ScalarSort t) = home_source base nodes n (below_at base nodes (length reds) n (ScalarSort t) g.under e) ∙ number_at nodes (length reds) n (ScalarSort t) g.agree e in
-              ap (λ (x : TermNode). sort_of_number n (out ++ renamed reds x ∷ [])) same
-              ∙ number_new n out (ScalarSort t) (λ u q. let theirs = home_number base nodes out n u g.state.at_home q in let one : u ≡ ScalarSort t = cc in one);
+              number_there n out' k (ScalarSort t) (there ∙ ap (λ (x : TermNode). Some (renamed reds x)) same)
+              (λ u q. let theirs = home_number base nodes out' n u p.state.at_home q in let one : u ≡ ScalarSort t = cc in one);
         };
       }
 
@@ -185,20 +188,19 @@ apart_push (x ∷ es) e h k = (
   apart_push es e h.1 (none_by (nat_eq x.map e.map && nat_eq x.place e.place) false x.entry 0 (asked e.map e.place es) None k),
 )
 
-pub entry_new : (base : ℕ) (nodes out : List TermNode) (es : List Entry) (m i index : ℕ) (elem : Scalar) (e : Entry) → State base nodes out es → IsAsked base nodes out es m i index elem → IsTrue (is_scalar elem)
-    → asked m i es ≡ None → e.map ≡ m → e.place ≡ i → e.index ≡ index → e.number ≡ entry_number base i m → e.entry ≡ length out
-    → Placed base nodes out es (out ++ Variable (entry_number base i m) (ScalarSort elem) ∷ []) (es ++ e ∷ []) elem (length out) (λ a. select_value (a m) (value a nodes i))
-entry_new base nodes out es m i index elem e st ask own none is_m is_i is_x is_n is_t =
+pub entry_new : (base : ℕ) (nodes out : List TermNode) (es : List Entry) (out' : List TermNode) (m i index t : ℕ) (elem : Scalar) (e : Entry) → State base nodes out es → IsAsked base nodes out es m i index elem
+    → IsTrue (is_scalar elem) → asked m i es ≡ None → e.map ≡ m → e.place ≡ i → e.index ≡ index → e.number ≡ entry_number base i m → e.entry ≡ t → Shared out (Variable (entry_number base i m) (ScalarSort elem)) out' t
+    → Placed base nodes out es out' (es ++ e ∷ []) elem t (λ a. select_value (a m) (value a nodes i))
+entry_new base nodes out es out' m i index t elem e st ask own none is_m is_i is_x is_n is_t shared =
     let v = Variable (entry_number base i m) (ScalarSort elem) in
     let add = entry_addable base nodes out es m i index elem st ask own in
-    let out' = out ++ v ∷ [] in
     let es' = es ++ e ∷ [] in
-    let push = later_push base nodes out es v (ScalarSort elem) st add.0 in
+    let g = given base nodes out es v (ScalarSort elem) st add.0 add.1 out' t shared in
     let later : Later out es out' es' = record {
-      nodes = push.nodes;
-      sound = push.sound;
+      nodes = g.later.nodes;
+      sound = g.later.sound;
       more = λ j x is. slice_get-left es (e ∷ []) j (slice_get_within es j x is) ∙ is;
-      within = push.within;
+      within = g.later.within;
     } in
     let mine : EntryKept base nodes out' es' e = record {
       index = ask.sort;
@@ -210,12 +212,12 @@ entry_new base nodes out es m i index elem e st ask own none is_m is_i is_x is_n
           subst (λ (x : ℕ). Stands nodes out' es' ask.sort x (λ a. value a nodes e.place)) (sym is_x)
           (subst (λ (x : ℕ). Stands nodes out' es' ask.sort index (λ a. value a nodes x)) (sym is_i)
           (stands_later out es out' es' later nodes ask.sort index (λ a. value a nodes i) ask.stands));
-      sort = ap (sort_at out') is_t ∙ sort_added out v (ScalarSort elem) add.0;
-      is = λ b. ap (value b out') is_t ∙ value-new b out v ∙ ap b (sym is_n);
+      sort = ap (sort_at out') is_t ∙ g.sort;
+      is = λ b. ap (value b out') is_t ∙ g.is b ∙ ap b (sym is_n);
     } in
     let state : State base nodes out' es' = record {
-      sound = push.sound;
-      at_home = (state_push base nodes out es v (ScalarSort elem) st add.0 add.1).at_home;
+      sound = g.state.sound;
+      at_home = g.state.at_home;
       entry = λ j x is. last_or es e j x (λ k y. EntryKept base nodes out' es' y) is (λ k y q. entry_later out es out' es' later base nodes y (st.entry k y q)) mine;
       apart = apart_push es e st.apart (ap (λ (x : ℕ). asked x e.place es) is_m ∙ ap (λ (x : ℕ). asked m x es) is_i ∙ none);
     } in
@@ -225,8 +227,8 @@ entry_new base nodes out es m i index elem e st ask own none is_m is_i is_x is_n
       state = state;
       later = later;
       stands =
-          subst (λ (x : ℕ). Stands nodes out' es' elem (length out) (λ a. select_value (a m) (value a nodes x))) is_i
-          (subst (λ (x : ℕ). Stands nodes out' es' elem (length out) (λ a. select_value (a x) (value a nodes e.place))) is_m
+          subst (λ (x : ℕ). Stands nodes out' es' elem t (λ a. select_value (a m) (value a nodes x))) is_i
+          (subst (λ (x : ℕ). Stands nodes out' es' elem t (λ a. select_value (a x) (value a nodes e.place))) is_m
           (subst (λ (x : ℕ). Stands nodes out' es' elem x (λ a. select_value (a e.map) (value a nodes e.place))) is_t s));
     }
 

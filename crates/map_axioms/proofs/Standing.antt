@@ -14,11 +14,11 @@ use Rattle.hy_term.specs.TermSorts.{sorts, sort_at, sort_behind, sort_of_number,
 use Rattle.hy_term.specs.Meaning.{node_value, values, value, fits}
 use Rattle.hy_term.specs.declared.node.TermNode.{TermNode}
 use Rattle.hy_term.specs.declared.node.TermNode.TheVariants.{Unary, Binary, If}
-use Rattle.hy_term.proofs.Growing.{value-more, value-new}
+use Rattle.hy_term.proofs.Growing.{value-more}
 use Rattle.hy_term.proofs.Sorting.{and_both}
 use Rattle.map_axioms.specs.declared.entry.Entry.{Entry}
-use Rattle.map_axioms.specs.Steps.{IsHome, Linked, Stands, EntryKept, Later, State, IsReduced, Placed}
-use Rattle.map_axioms.proofs.Cases.{added, sort_added, sort_stays, sort_within, behind_unary, behind_binary, behind_if}
+use Rattle.map_axioms.specs.Steps.{IsHome, Linked, Stands, EntryKept, Later, State, IsReduced}
+use Rattle.map_axioms.proofs.Cases.{added, sort_stays, sort_within, behind_unary, behind_binary, behind_if}
 use Rattle.map_axioms.proofs.Homes.{home_push, number_stays}
 
 pub some_is : {A : Type 0} (o : Option A) (x : A) → o ≡ Some x → IsSome o
@@ -110,16 +110,6 @@ state_push base nodes out es node s st h at_home =
       apart = st.apart;
     }
 
--- a node that is added stands for what it means
-pub stands_new : (base : ℕ) (nodes out : List TermNode) (es : List Entry) (node : TermNode) (s : Scalar) (f : (ℕ → Value) → Value) → State base nodes out es → sort_behind out node ≡ Some (ScalarSort s)
-    → ((a b : ℕ → Value) → IsTrue (fits a nodes) → Linked nodes out es a b → node_value b (values b out) node ≡ f a) → Stands nodes (out ++ node ∷ []) es s (length out) f
-stands_new base nodes out es node s f st h k =
-    let l = later_push base nodes out es node (ScalarSort s) st h in
-    record {
-      sort = sort_added out node (ScalarSort s) h;
-      means = λ a b fit link. value-new b out node ∙ k a b fit (linked_back out es (out ++ node ∷ []) es l nodes a b link);
-    }
-
 -- what may be added, and stands for a term
 pub record Addable (base : ℕ) (nodes out : List TermNode) (es : List Entry) (node : TermNode) (s : Scalar) (f : (ℕ → Value) → Value) : Type 0 where
   pub behind : sort_behind out node ≡ Some (ScalarSort s)
@@ -129,14 +119,6 @@ pub record Addable (base : ℕ) (nodes out : List TermNode) (es : List Entry) (n
 
 pub addable_fits : (base : ℕ) (nodes out : List TermNode) (es : List Entry) (node : TermNode) (s : Scalar) (f : (ℕ → Value) → Value) → Addable base nodes out es node s f → IsTrue (fits_behind out node)
 addable_fits base nodes out es node s f h = and_both (is_some (sort_behind out node)) (variable_agrees out node) (some_is (sort_behind out node) (ScalarSort s) h.behind) h.agrees
-
-pub placed : (base : ℕ) (nodes out : List TermNode) (es : List Entry) (node : TermNode) (s : Scalar) (f : (ℕ → Value) → Value) → State base nodes out es → Addable base nodes out es node s f
-    → Placed base nodes out es (out ++ node ∷ []) es s (length out) f
-placed base nodes out es node s f st h = record {
-  state = state_push base nodes out es node (ScalarSort s) st h.behind h.at_home;
-  later = later_push base nodes out es node (ScalarSort s) st h.behind;
-  stands = stands_new base nodes out es node s f st h.behind h.means;
-}
 
 pub addable_unary : (base : ℕ) (nodes out : List TermNode) (es : List Entry) (op : UnOp) (c : ℕ) (s t : Scalar) (f : (ℕ → Value) → Value)
     → Stands nodes out es s c f → sort_of_unary op s ≡ Some t → Addable base nodes out es (Unary op c) t (λ a. unary_value op (f a))

@@ -1,3 +1,4 @@
 pub mod Lifting
 pub mod Reduction
+pub mod Shared
 pub mod Steps

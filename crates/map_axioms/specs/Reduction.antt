@@ -1,6 +1,6 @@
 -- What the reduction of maps keeps: with the same values of the variables that aren't maps, the reduced terms can hold exactly where
 -- the terms can.
-use Rattle.std.specs.Prelude.{◌≡◌, ℕ, Bool, true, false, List, map, Option, None, Some, IsTrue, ◌↔◌}
+use Rattle.std.specs.Prelude.{◌≡◌, ℕ, Bool, true, false, List, map, slice_get, Option, None, Some, IsTrue, ◌↔◌}
 use Rattle.hy_val.specs.declared.atom.Atom.{Atom}
 use Rattle.hy_val.specs.declared.sort.Scalar.{Scalar}
 use Rattle.hy_val.specs.declared.sort.Sort.{Sort}
@@ -43,3 +43,7 @@ pub record Reduction : Type 0 where
 -- the assignment that atoms for the variables of the nodes stand for
 abbrev pub of_atoms : List TermNode → List Atom → ℕ → Value
 of_atoms nodes atoms = of_list (numbers nodes) (map (λ (a : Atom). AtomValue a) atoms)
+
+-- no two nodes are equal
+abbrev pub AllDiffer : List TermNode → Type 0
+AllDiffer nodes = (i j : ℕ) (node : TermNode) → slice_get nodes i ≡ Some node → slice_get nodes j ≡ Some node → i ≡ j

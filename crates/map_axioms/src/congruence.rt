@@ -7,7 +7,8 @@ ghost use Rattle.map_axioms.specs.Steps.{Conjoined, EntryKept, LinksFrom, State,
 
 use crate::entry::Entry;
 use crate::links::links;
-use hy_term::{TermNode, Terms};
+use crate::shared::SharedTerms;
+use hy_term::TermNode;
 use hy_val::BvOp;
 use std::alloc::{AllocError, Global};
 
@@ -15,7 +16,7 @@ use std::alloc::{AllocError, Global};
 fn with_pair(
     nodes: &[TermNode],
     base: usize,
-    out: &mut Terms,
+    out: &mut SharedTerms,
     entries: &[Entry],
     all: usize,
     one: Entry,
@@ -59,7 +60,7 @@ fn with_pair(
 fn with_pairs(
     nodes: &[TermNode],
     base: usize,
-    out: &mut Terms,
+    out: &mut SharedTerms,
     entries: &[Entry],
     links: &[usize],
     all: usize,
@@ -87,7 +88,7 @@ pub(crate) fn congruent(
     alloc: Global,
     nodes: &[TermNode],
     base: usize,
-    out: &mut Terms,
+    out: &mut SharedTerms,
     entries: &[Entry],
     all: usize,
 ) -> Result<usize, AllocError>

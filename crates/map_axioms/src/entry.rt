@@ -6,7 +6,8 @@ ghost use Rattle.hy_term.specs.Meaning.{value};
 ghost use Rattle.map_axioms.specs.Steps.{IsAsked, Placed, State, entry_number};
 
 use crate::entries::Entries;
-use hy_term::{TermNode, Terms};
+use crate::shared::SharedTerms;
+use hy_term::TermNode;
 use hy_val::{Scalar, Sort};
 use std::alloc::AllocError;
 
@@ -47,7 +48,7 @@ pub(crate) struct Ask {
 pub(crate) fn variable_entry(
     nodes: &[TermNode],
     base: usize,
-    out: &mut Terms,
+    out: &mut SharedTerms,
     entries: &mut Entries,
     ask: Ask,
 ) -> Result<usize, AllocError>

@@ -11,6 +11,7 @@ mod node;
 mod plan;
 mod reduction;
 mod row;
+mod shared;
 mod table;
 mod values;
 

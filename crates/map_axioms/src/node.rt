@@ -9,6 +9,7 @@ ghost use Rattle.map_axioms.specs.Steps.{AllReduced, AreFirsts, RowsStand, State
 use crate::entries::Entries;
 use crate::firsts::first_of;
 use crate::row::{entry_of, reduced_at};
+use crate::shared::SharedTerms;
 use crate::table::Table;
 use hy_term::{TermNode, Terms};
 use hy_val::{Scalar, SortKind};
@@ -47,7 +48,7 @@ fn scalar_node(
     alloc: Global,
     terms: &Terms,
     base: usize,
-    out: &mut Terms,
+    out: &mut SharedTerms,
     entries: &mut Entries,
     rows: &mut Table,
     firsts: &mut IndexMap<usize, usize>,
@@ -87,7 +88,7 @@ pub(crate) fn reduced(
     alloc: Global,
     terms: &Terms,
     base: usize,
-    out: &mut Terms,
+    out: &mut SharedTerms,
     entries: &mut Entries,
     rows: &mut Table,
     firsts: &mut IndexMap<usize, usize>,

@@ -6,6 +6,7 @@ ghost use Rattle.map_axioms.specs.Steps.{AllParts, AllReduced, IsPart, IsRow, Is
 
 use crate::entries::Entries;
 use crate::entry::{Ask, variable_entry};
+use crate::shared::SharedTerms;
 use crate::table::Table;
 use hy_term::{TermNode, Terms};
 use hy_val::{Atom, BvOp, Sort, SortKind};
@@ -77,7 +78,7 @@ fn waiting(rows: &Table, node: &TermNode, place: usize) -> Option<usize>
 fn variable_row(
     terms: &Terms,
     base: usize,
-    out: &mut Terms,
+    out: &mut SharedTerms,
     entries: &mut Entries,
     reds: &[usize],
     rows: &Table,
@@ -115,7 +116,7 @@ fn variable_row(
 fn if_row(
     terms: &Terms,
     base: usize,
-    out: &mut Terms,
+    out: &mut SharedTerms,
     entries: &Entries,
     reds: &[usize],
     rows: &Table,
@@ -146,7 +147,7 @@ fn if_row(
 fn store_row(
     terms: &Terms,
     base: usize,
-    out: &mut Terms,
+    out: &mut SharedTerms,
     entries: &Entries,
     reds: &[usize],
     rows: &Table,
@@ -182,7 +183,7 @@ fn store_row(
 fn node_row(
     terms: &Terms,
     base: usize,
-    out: &mut Terms,
+    out: &mut SharedTerms,
     entries: &mut Entries,
     reds: &[usize],
     rows: &Table,
@@ -237,7 +238,7 @@ fn node_row(
 fn add_row(
     terms: &Terms,
     base: usize,
-    out: &mut Terms,
+    out: &mut SharedTerms,
     entries: &mut Entries,
     rows: &mut Table,
     reds: &[usize],
@@ -290,7 +291,7 @@ pub(crate) fn entry_of(
     alloc: Global,
     terms: &Terms,
     base: usize,
-    out: &mut Terms,
+    out: &mut SharedTerms,
     entries: &mut Entries,
     rows: &mut Table,
     reds: &[usize],

@@ -25,4 +25,4 @@ returns-clause-entry c =
     let none : asked c.args.ask.map c.args.ask.place c.args.entries.now ≡ None = sym c.in_default.ensures in
     let e : Entry = record { map = c.args.ask.map; place = c.args.ask.place; index = c.args.ask.index; number = c.in_ok-number.number; entry = c.in_ok-entry.entry } in
     entry_placed c.args.base c.args.nodes.now c.args.out.now.nodes c.args.entries.now c.args.ask.map c.args.ask.place c.args.ask.index c.in_ok-number.number c.in_ok-entry.entry c.args.ask.elem c.scalar.result
-    c.add.new.self.nodes c.push.new.self e c.requires.state c.requires.ask c.requires.own none number c.scalar.ensures c.in_ok-entry.ensures.added c.in_ok-entry.ensures.number c.in_ok-push.ensures refl refl refl refl refl
+    c.add.new.self.nodes c.push.new.self e c.requires.state c.requires.ask c.requires.own none number c.scalar.ensures c.in_ok-entry.ensures.node c.in_ok-push.ensures refl refl refl refl refl

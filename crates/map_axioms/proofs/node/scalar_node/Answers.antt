@@ -1,9 +1,10 @@
-use Rattle.std.proofs.Common.{◌≡◌, ◌+◌, ◌∙◌, ap, sym, subst, ℕ, List, length, arith, ◌++◌, ◌∷◌, [], length-append, false}
+use Rattle.std.proofs.Common.{◌≡◌, ◌∙◌, ap, sym, subst, List, length, arith, false}
 use Rattle.std.specs.Prelude.{Some, IsTrue, nat_eq, slice_index}
 use Rattle.hy_term.specs.TermSorts.{fits_behind}
 use Rattle.hy_term.specs.declared.node.TermNode.{TermNode}
 use Rattle.indexmap.specs.IndexMap.{get}
-use Rattle.map_axioms.specs.Steps.{AreFirsts, IsFirst, IsScalarAt, Taken, renamed}
+use Rattle.map_axioms.specs.Shared.{Shared}
+use Rattle.map_axioms.specs.Steps.{AreFirsts, IsFirst, IsScalarAt, renamed}
 use Rattle.map_axioms.proofs.Indexing.{first_select, first_entry}
 use Rattle.map_axioms.proofs.Nodes.{is_select, Ground, addable_node}
 use Rattle.map_axioms.proofs.Rows.{taken_node, select_reduced, rows_later, reds_later}
@@ -69,16 +70,12 @@ returns-in_ok-red-in_default c =
     let g : Ground c.args.base c.args.terms.now.nodes c.args.out.now.nodes c.args.entries.now c.args.reds.now =
     record { agree = formula_agrees c.args.terms.now c.nodes-nodes.ensures.kept; under = c.requires.under; state = c.requires.state; each = c.requires.reds } in
     let other : is_select c.args.node ≡ false = not_select c.args.node (λ m i e. c.in_default.not-Select m i e) in
-    let t = taken_node c.args.base c.args.terms.now.nodes c.args.out.now.nodes c.args.entries.now c.args.reds.now g c.args.node c.args.sort c.requires.sort c.requires.node other in
-    let out : c.add.new.self.nodes ≡ c.args.out.now.nodes ++ renamed c.args.reds.now c.args.node ∷ [] = c.in_ok-red-in_default.ensures.added ∙ ap (λ (x : TermNode). c.args.out.now.nodes ++ x ∷ []) c.renamed.ensures in
-    let more : length c.add.new.self.nodes ≡ length c.args.out.now.nodes + 1 = ap length out ∙ length-append c.args.out.now.nodes (renamed c.args.reds.now c.args.node ∷ []) in
-    let taken =
-    subst (λ (k : ℕ). Taken c.args.base c.args.terms.now.nodes c.args.out.now.nodes c.args.entries.now c.add.new.self.nodes c.args.entries.now (length c.args.reds.now) k) (sym c.in_ok-red-in_default.ensures.number)
-    (subst (λ (ns : List TermNode). Taken c.args.base c.args.terms.now.nodes c.args.out.now.nodes c.args.entries.now ns c.args.entries.now (length c.args.reds.now) (length c.args.out.now.nodes)) (sym out) t) in
+    let taken = taken_node c.args.base c.args.terms.now.nodes c.args.out.now.nodes c.args.entries.now c.args.reds.now g c.args.node c.args.sort c.requires.sort c.requires.node other c.add.new.self.nodes c.in_ok-red-in_default.red
+    (subst (λ (x : TermNode). Shared c.args.out.now.nodes x c.add.new.self.nodes c.in_ok-red-in_default.red) c.renamed.ensures c.in_ok-red-in_default.ensures.node) in
     record {
       node = taken;
       firsts = c.requires.firsts;
       rows = rows_later c.args.terms.now.nodes c.args.out.now.nodes c.args.entries.now c.add.new.self.nodes c.args.entries.now c.args.rows.now taken.later c.requires.rows;
-      nodes = omega (arith, more);
+      nodes = omega (arith, c.in_ok-red-in_default.ensures.count);
       entries = omega arith;
     }

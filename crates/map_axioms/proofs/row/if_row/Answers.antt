@@ -10,4 +10,4 @@ add-requires c =
 pub returns-clause-entry : goal.returns-clause-entry
 returns-clause-entry c =
     arm_if c.args.base c.args.terms.now.nodes c.args.out.now.nodes c.args.entries.now c.args.reds.now c.args.rows.now c.args.top c.args.place (formula_agrees c.args.terms.now c.nodes-nodes.ensures.kept) c.requires.under c.requires.row (maps_known c.args.terms.now.nodes c.args.rows.now c.args.top c.args.place (If c.args.cond c.args.yes c.args.no) c.requires.node c.requires.known) c.args.cond c.args.yes c.args.no c.reduced_at.result c.entry_at.result c.entry_at-2.result c.add.new.self.nodes c.in_ok-entry.entry c.requires.node c.reduced_at.ensures c.entry_at.ensures c.entry_at-2.ensures
-    c.in_ok-entry.ensures.added c.in_ok-entry.ensures.number
+    c.in_ok-entry.ensures.node

@@ -9,7 +9,7 @@ use Rattle.map_axioms.proofs.row.node_row.Goals as goal
 
 pub returns-in_ok-entry-in-ZeroMap-clause-entry : goal.returns-in_ok-entry-in-ZeroMap-clause-entry
 returns-in_ok-entry-in-ZeroMap-clause-entry c =
-    arm_zero c.args.base c.args.terms.now.nodes c.args.out.now.nodes c.args.entries.now c.args.reds.now c.args.rows.now c.args.top c.args.place (formula_agrees c.args.terms.now c.nodes-nodes.ensures.kept) c.requires.under c.requires.row (maps_known c.args.terms.now.nodes c.args.rows.now c.args.top c.args.place c.args.node c.requires.node c.requires.known) c.in-ZeroMap.index c.in-ZeroMap.elem c.zero.result c.add.new.self.nodes c.in_ok-entry-in-ZeroMap.entry (c.requires.node ∙ ap Some c.in-ZeroMap.is) c.zero.ensures c.in_ok-entry-in-ZeroMap.ensures.added c.in_ok-entry-in-ZeroMap.ensures.number
+    arm_zero c.args.base c.args.terms.now.nodes c.args.out.now.nodes c.args.entries.now c.args.reds.now c.args.rows.now c.args.top c.args.place (formula_agrees c.args.terms.now c.nodes-nodes.ensures.kept) c.requires.under c.requires.row (maps_known c.args.terms.now.nodes c.args.rows.now c.args.top c.args.place c.args.node c.requires.node c.requires.known) c.in-ZeroMap.index c.in-ZeroMap.elem c.zero.result c.add.new.self.nodes c.in_ok-entry-in-ZeroMap.entry (c.requires.node ∙ ap Some c.in-ZeroMap.is) c.zero.ensures c.in_ok-entry-in-ZeroMap.ensures.node
 
 pub variable_row-requires-clause-node : goal.variable_row-requires-clause-node
 variable_row-requires-clause-node c = c.requires.node ∙ ap Some c.in-Variable.is
