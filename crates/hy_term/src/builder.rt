@@ -8,32 +8,31 @@ use crate::by_number::{agrees, note};
 use crate::node::TermNode;
 use crate::sorts::sort_of_node;
 use crate::terms::Terms;
-use hy_val::{Atom, Scalar, ScalarKind, Sort, SortKind};
+use hy_val::{ScalarKind, Sort, SortKind};
 use indexmap::IndexMap;
-use sqlite_items::{Items, at};
+use sqlite_items::at;
 use std::alloc::{AllocError, Global};
 use std::marker::Model;
 
 /// The nodes of terms so far, the literal true at first. Children stand before their nodes, the sorts fit, and nodes
-/// with the same variable number have the same sort. It keeps the sort of each node and of each variable by its number,
-/// so that a new node is tried in constant time. Contracts see the list of nodes.
+/// with the same variable number have the same sort. It keeps the sort of each variable by its number, so that a new node
+/// is tried in constant time. Contracts see the list of nodes.
 #[derive(Drop)]
 pub struct TermBuilder {
     terms: Terms,
-    known: Items<Sort>,
     by_number: IndexMap<usize, Sort>,
 }
 
 impl Model for TermBuilder {
     ghost use Rattle.std.specs.Prelude.{List};
     ghost use Rattle.hy_term.specs.declared.node.TermNode.{TermNode};
-    ghost use Rattle.hy_term.specs.Kept.{Kept};
+    ghost use Rattle.hy_term.specs.Kept.{IsIndexed};
 
     ghost Value = { List TermNode };
 
     ghost view = { λ b. b.terms.nodes };
 
-    ghost invariant = { λ b. Kept b.terms.nodes b.known b.by_number.entries };
+    ghost invariant = { λ b. IsIndexed b.by_number.entries b.terms.nodes };
 }
 
 // Whether the sort is there, and that of the bools.
@@ -58,11 +57,8 @@ impl TermBuilder {
         ensures { IfOk result (λ b. b ≡ TermNode.Lit (BoolAtom true) ∷ []) }
     {
         let terms = Terms::new(alloc)?;
-        let mut known = Items::new(alloc);
-        known.push(Sort::scalar(Scalar::bool()))?;
         Ok(TermBuilder {
             terms,
-            known,
             by_number: IndexMap::new(alloc),
         })
     }
@@ -78,7 +74,7 @@ impl TermBuilder {
     pub fn sort(&self, number: usize) -> Option<Sort>
         ensures { result ≡ sort_at self.now number }
     {
-        at(self.known.as_slice(), number).copied()
+        at(self.terms.sorts(), number).copied()
     }
 
     /// Adds a node where it fits behind the others, and answers its number. It is None where a child isn't there, the
@@ -88,24 +84,16 @@ impl TermBuilder {
         ensures ok { IfOk result (λ number. Tried self.old node self.new number) }
         ensures err { OnErr result (self.new ≡ self.old) }
     {
-        let Some(sort) = sort_of_node(self.known.as_slice(), &node) else {
+        if sort_of_node(self.terms.sorts(), &node).is_none() {
             return Ok(None);
-        };
+        }
         if !agrees(&self.by_number, &node) {
             return Ok(None);
         }
         self.by_number.reserve(1)?;
-        self.known.push(sort)?;
-        match self.terms.add(node) {
-            Ok(number) => {
-                note(&mut self.by_number, &node);
-                Ok(Some(number))
-            }
-            Err(error) => {
-                self.known.pop();
-                Err(error)
-            }
-        }
+        let number = self.terms.add(node)?;
+        note(&mut self.by_number, &node);
+        Ok(Some(number))
     }
 
     /// The terms whose root is the node of this number; None where there is no such node, or it isn't a bool.
@@ -114,10 +102,9 @@ impl TermBuilder {
     {
         let TermBuilder {
             mut terms,
-            known,
             by_number: _,
         } = self;
-        if is_bool(at(known.as_slice(), root).copied()) {
+        if is_bool(at(terms.sorts(), root).copied()) {
             terms.set_root(root);
             Some(terms)
         } else {

@@ -1,7 +1,7 @@
 //! Terms, and how they grow.
 ghost use Rattle.std.specs.Prelude.{◌≡◌, ◌<◌, [], ◌∷◌, ◌++◌, length, slice_get, Some, true, IfOk, IfSome, OnOk, OnErr, IsTrue};
 ghost use Rattle.hy_val.specs.declared.atom.AtomKind.TheVariants.{Bool as BoolAtom};
-ghost use Rattle.hy_term.specs.TermSorts.{fits_behind, is_bool, is_formula, sort_at};
+ghost use Rattle.hy_term.specs.TermSorts.{fits_behind, is_bool, is_formula, sort_at, sorts};
 ghost use Rattle.hy_term.specs.Variables.{below};
 
 use crate::node::TermNode;
@@ -73,6 +73,13 @@ impl Terms {
             Some(sort) => sort,
             None => unreachable!(),
         }
+    }
+
+    /// The sorts of the nodes.
+    pub(crate) fn sorts(&self) -> &[Sort]
+        ensures { sorts self.now.nodes ≡ Some result.now }
+    {
+        self.sorts.as_slice()
     }
 
     /// Puts a node behind the others, and answers its number. Its children have to be nodes, their sorts have to fit,
