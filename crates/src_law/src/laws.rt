@@ -1,0 +1,12 @@
+//! The laws, each the contract of a function that does nothing.
+ghost use Rattle.src_law.specs.Statuses.{StatusesAreUnique, EachListHasAStatus};
+
+/// A run on a list of choices comes to stand with one status at most.
+pub fn statuses_are_unique()
+    ensures { StatusesAreUnique }
+{}
+
+/// A run of a program comes to stand on each list of choices, whatever the entry and the bound.
+pub fn each_list_has_a_status()
+    ensures { EachListHasAStatus }
+{}
