@@ -42,20 +42,25 @@ ends_over prog bound choices c over index = let s = stands c.status over in ends
     stands (BadChoice i) ne = (c, refl)
 
 -- a step that takes no choice
-pub ends_tick : (prog : Program) (bound : ℕ) (choices : List Choice) (c : Config) → c.status ≡ Going → c.wants ≡ [] → Ends prog bound choices (tick prog bound c) → Ends prog bound choices c
-ends_tick prog bound choices c going none e index =
-    let (s, h) = e index in
+pub comes_tick : (prog : Program) (bound index : ℕ) (choices : List Choice) (c : Config) (s : Status) → c.status ≡ Going → c.wants ≡ [] → Comes prog bound index (tick prog bound c) choices s → Comes prog bound index c choices s
+comes_tick prog bound index choices c s going none h =
     let one : turn prog bound index c c.status choices ≡ GoesOn index (tick prog bound c) choices = rw (going, none) refl in
-    (s, record { turns = suc h.turns; last = h.last; runs = rw one h.runs; is = h.is })
+    record { turns = suc h.turns; last = h.last; runs = rw one h.runs; is = h.is }
+
+pub ends_tick : (prog : Program) (bound : ℕ) (choices : List Choice) (c : Config) → c.status ≡ Going → c.wants ≡ [] → Ends prog bound choices (tick prog bound c) → Ends prog bound choices c
+ends_tick prog bound choices c going none e index = let (s, h) = e index in (s, comes_tick prog bound index choices c s going none h)
 
 -- a run that asks for a choice where none is left
 pub ends_asking : (prog : Program) (bound : ℕ) (c : Config) (w : Want) (ws : List Want) → c.status ≡ Going → c.wants ≡ w ∷ ws → Ends prog bound [] c
 ends_asking prog bound c w ws going asks index = ends_now prog bound index [] c c (rw (going, asks) refl)
 
 -- a choice that is taken
+pub comes_choice : (prog : Program) (bound index : ℕ) (x : Choice) (xs : List Choice) (c : Config) (w : Want) (ws : List Want) (s : Status) → c.status ≡ Going → c.wants ≡ w ∷ ws
+    → Comes prog bound (index + 1) (take_choice prog bound c index w ws x) xs s → Comes prog bound index c (x ∷ xs) s
+comes_choice prog bound index x xs c w ws s going asks h =
+    let one : turn prog bound index c c.status (x ∷ xs) ≡ GoesOn (index + 1) (take_choice prog bound c index w ws x) xs = rw (going, asks) refl in
+    record { turns = suc h.turns; last = h.last; runs = rw one h.runs; is = h.is }
+
 pub ends_choice : (prog : Program) (bound : ℕ) (x : Choice) (xs : List Choice) (c : Config) (w : Want) (ws : List Want) → c.status ≡ Going → c.wants ≡ w ∷ ws
     → ((index : ℕ) → Ends prog bound xs (take_choice prog bound c index w ws x)) → Ends prog bound (x ∷ xs) c
-ends_choice prog bound x xs c w ws going asks e index =
-    let (s, h) = e index (index + 1) in
-    let one : turn prog bound index c c.status (x ∷ xs) ≡ GoesOn (index + 1) (take_choice prog bound c index w ws x) xs = rw (going, asks) refl in
-    (s, record { turns = suc h.turns; last = h.last; runs = rw one h.runs; is = h.is })
+ends_choice prog bound x xs c w ws going asks e index = let (s, h) = e index (index + 1) in (s, comes_choice prog bound index x xs c w ws s going asks h)

@@ -5,3 +5,5 @@ pub mod Ends
 pub mod Fitting
 pub mod Opening
 pub mod Going
+pub mod Taken
+pub mod Bad

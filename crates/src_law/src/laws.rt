@@ -1,5 +1,5 @@
 //! The laws, each the contract of a function that does nothing.
-ghost use Rattle.src_law.specs.Statuses.{StatusesAreUnique, EachListHasAStatus};
+ghost use Rattle.src_law.specs.Statuses.{StatusesAreUnique, EachListHasAStatus, BadChoicesAreFirst};
 
 /// A run on a list of choices comes to stand with one status at most.
 pub fn statuses_are_unique()
@@ -9,4 +9,11 @@ pub fn statuses_are_unique()
 /// A run of a program comes to stand on each list of choices, whatever the entry and the bound.
 pub fn each_list_has_a_status()
     ensures { EachListHasAStatus }
+{}
+
+/// Behind the end of a run the next choice is bad. The index of a bad choice is that of the first
+/// one: it is below the length of the list, the choices before it were taken, and those behind it
+/// change nothing.
+pub fn bad_choices_are_first()
+    ensures { BadChoicesAreFirst }
 {}
