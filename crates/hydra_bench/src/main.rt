@@ -5,12 +5,14 @@
 mod circuits;
 mod reading;
 mod solving;
+mod stores;
 mod values;
 
 use circuits::Circuit;
 use hy_text::read_u64;
 use std::alloc::Global;
 use std::{env, io};
+use stores::Outcome;
 
 /// What is to be done, and how large.
 #[derive(Clone, Copy)]
@@ -27,6 +29,12 @@ enum Work {
     Solve(u64),
     /// Builds circuits over words of so many bits.
     Gates(u64),
+    /// Takes the maps from a question of so many stores and selects.
+    Reduce(u64),
+    /// Makes the clauses of such a question.
+    Blast(u64),
+    /// Decides such a question.
+    Decide(u64),
 }
 
 /// The work that the words name; None where they name none.
@@ -39,7 +47,43 @@ fn chosen(kind: &str, size: &str) -> Option<Work> {
         "values" => Some(Work::Values(size)),
         "solve" => Some(Work::Solve(size)),
         "gates" => Some(Work::Gates(size)),
+        "reduce" => Some(Work::Reduce(size)),
+        "blast" => Some(Work::Blast(size)),
+        "decide" => Some(Work::Decide(size)),
         _ => None,
+    }
+}
+
+/// Prints what the solver did on clauses of so many variables.
+fn tell_solved(rt: &HostRuntime, alloc: Global, variables: u64) -> io::Result<()> {
+    let counts = solving::decide(alloc, variables)?;
+    let verdict = if counts.refuted {
+        "refuted"
+    } else {
+        "satisfiable"
+    };
+    println!(rt;
+        "solve: {variables} variables, {} clauses, {} conflicts, {verdict}",
+        counts.clauses, counts.conflicts
+    )
+}
+
+/// Prints the sizes of circuits over words of so many bits.
+fn tell_circuits(rt: &HostRuntime, alloc: Global, width: u64) -> io::Result<()> {
+    let sum = circuits::count(alloc, Circuit::Adder, width)?;
+    let product = circuits::count(alloc, Circuit::Multiplier, width)?;
+    let quotient = circuits::count(alloc, Circuit::Divider, width)?;
+    println!(rt;
+        "gates: width {width}, adder {} ({} clauses), multiplier {} ({} clauses), divider {} ({} clauses)",
+        sum.gates, sum.clauses, product.gates, product.clauses, quotient.gates, quotient.clauses
+    )
+}
+
+/// Prints what is decided of the question of so many stores and selects.
+fn tell_decided(rt: &HostRuntime, alloc: Global, count: u64) -> io::Result<()> {
+    match stores::decided(alloc, count)? {
+        Outcome::Model(values) => println!(rt; "decide: {count} stores, model of {values} values"),
+        Outcome::Refuted(lines) => println!(rt; "decide: {count} stores, refuted by {lines} lines"),
     }
 }
 
@@ -65,32 +109,23 @@ fn run(rt: &HostRuntime, alloc: Global, work: Work) -> io::Result<()> {
             let counts = values::evaluate(alloc, size)?;
             println!(rt; "values: {} nodes, value {}", counts.nodes, counts.value)
         }
-        Work::Solve(size) => {
-            let counts = solving::decide(alloc, size)?;
-            let verdict = if counts.refuted {
-                "refuted"
-            } else {
-                "satisfiable"
-            };
+        Work::Solve(size) => tell_solved(rt, alloc, size),
+        Work::Gates(width) => tell_circuits(rt, alloc, width),
+        Work::Reduce(size) => {
+            let sizes = stores::reduced(alloc, size)?;
             println!(rt;
-                "solve: {size} variables, {} clauses, {} conflicts, {verdict}",
-                counts.clauses, counts.conflicts
+                "reduce: {size} stores, {} nodes, {} reduced",
+                sizes.nodes, sizes.reduced
             )
         }
-        Work::Gates(width) => {
-            let sum = circuits::count(alloc, Circuit::Adder, width)?;
-            let product = circuits::count(alloc, Circuit::Multiplier, width)?;
-            let quotient = circuits::count(alloc, Circuit::Divider, width)?;
+        Work::Blast(size) => {
+            let sizes = stores::blasted(alloc, size)?;
             println!(rt;
-                "gates: width {width}, adder {} ({} clauses), multiplier {} ({} clauses), divider {} ({} clauses)",
-                sum.gates,
-                sum.clauses,
-                product.gates,
-                product.clauses,
-                quotient.gates,
-                quotient.clauses
+                "blast: {size} stores, {} gates, {} clauses",
+                sizes.gates, sizes.clauses
             )
         }
+        Work::Decide(size) => tell_decided(rt, alloc, size),
     }
 }
 
@@ -108,7 +143,7 @@ fn main(rt: HostRuntime) -> io::Result<()> {
     match work {
         Some(work) => run(&rt, alloc, work),
         None => println!(rt;
-            "usage: hydra_bench tokens MIB | parse MIB | show MIB | values THOUSANDS | solve VARIABLES | gates WIDTH"
+            "usage: hydra_bench tokens MIB | parse MIB | show MIB | values THOUSANDS | solve VARIABLES | gates WIDTH | reduce STORES | blast STORES | decide STORES"
         ),
     }
 }

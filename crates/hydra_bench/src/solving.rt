@@ -1,9 +1,9 @@
 //! The solver on random clauses of three literals.
 
-ghost use Rattle.std.specs.Prelude.{◌≡◌, [], IfOk};
+ghost use Rattle.std.specs.Prelude.{◌≡◌};
 ghost use Rattle.cnf_form.specs.Literal.{clause_in_range};
 
-use cnf_form::{Clause, ClauseStore, Cnf, Lit};
+use cnf_form::{Clause, Cnf, Lit};
 use sat_core::{Answer, ScanStore, solve};
 use std::alloc::{AllocError, Global};
 
@@ -74,24 +74,11 @@ fn formula(alloc: Global, variables: usize) -> Result<Cnf, AllocError> {
     Ok(cnf)
 }
 
-/// A store of the clauses of the formula.
-fn store_of(alloc: Global, cnf: &Cnf) -> Result<ScanStore, AllocError>
-    ensures clauses { IfOk result (λ s. s.clauses ≡ cnf.now.clauses) }
-    ensures assigned { IfOk result (λ s. s.trail ≡ []) }
-{
-    let mut store = ScanStore::new(alloc)?;
-    let clauses = cnf.clauses.as_slice();
-    for clause in clauses {
-        store.add(clause.copy(alloc)?)?;
-    }
-    Ok(store)
-}
-
 /// Solves clauses of so many variables.
 pub fn decide(alloc: Global, variables: u64) -> Result<Counts, AllocError> {
     let cnf = formula(alloc, variables as usize)?;
     let clauses = cnf.clauses.len();
-    let mut store = store_of(alloc, &cnf)?;
+    let mut store = ScanStore::of_cnf(alloc, &cnf)?;
     match solve(alloc, cnf.variables, &mut store) {
         Answer::Sat(_) => Ok(Counts {
             clauses,
