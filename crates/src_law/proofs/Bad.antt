@@ -148,6 +148,18 @@ module _ (prog : Program) (bound : ℕ) where
       at rec Cut k r = over_bad n index bad_one c choices last took (rw k refl) r e
       at rec (BadChoice i) k r = absurd (rw k at took)
 
+  -- with no choices left none becomes bad
+  pub none_bad : (index : ℕ) (c : Config) (s : Status) → Took c → Comes prog bound index c [] s → AreTaken s
+  none_bad index c Going took h = tt
+  none_bad index c Ended took h = tt
+  none_bad index c (Failed p n) took h = tt
+  none_bad index c Blocked took h = tt
+  none_bad index c Cut took h = tt
+  none_bad index c (BadChoice i) took h =
+      let f = finds_bad h.turns index i c [] h.last took h.runs h.is in
+      let there = f.there in
+      absurd (omega arith)
+
 pub bad_choices_are_first : BadChoicesAreFirst
 bad_choices_are_first = record { behind = behind; stays = stays; first = first }
   where

@@ -1,10 +1,10 @@
 -- Runs that come to stand.
-use Rattle.std.proofs.Common.{◌≡◌, ℕ, suc, ◌+◌, Bool, true, false, if◌then◌else◌, List, [], ◌∷◌, refl, inl, inr, ◌⊎◌}
+use Rattle.std.proofs.Common.{◌≡◌, ℕ, zero, suc, ◌+◌, Bool, true, false, if◌then◌else◌, List, [], ◌∷◌, refl, inl, inr, ◌⊎◌, Some}
 use Rattle.src_prog.specs.Program.{Program}
 use Rattle.src_run.specs.declared.machine.Choice.{Choice}
 use Rattle.src_run.specs.declared.machine.Status.{Status}
 use Rattle.src_run.specs.declared.machine.Status.TheVariants.{Going, Ended, Failed, Blocked, Cut, BadChoice}
-use Rattle.src_run.specs.Machine.{Config, Want, Stands, GoesOn, tick, take_choice, bad, turn, over, Comes}
+use Rattle.src_run.specs.Machine.{Config, Want, Stands, GoesOn, tick, take_choice, bad, turn, over, within, Comes}
 
 -- whatever the next choice's index, the run has a status
 abbrev pub Ends : Program → (bound : ℕ) → List Choice → Config → Type 0
@@ -64,3 +64,24 @@ comes_choice prog bound index x xs c w ws s going asks h =
 pub ends_choice : (prog : Program) (bound : ℕ) (x : Choice) (xs : List Choice) (c : Config) (w : Want) (ws : List Want) → c.status ≡ Going → c.wants ≡ w ∷ ws
     → ((index : ℕ) → Ends prog bound xs (take_choice prog bound c index w ws x)) → Ends prog bound (x ∷ xs) c
 ends_choice prog bound x xs c w ws going asks e index = let (s, h) = e index (index + 1) in (s, comes_choice prog bound index x xs c w ws s going asks h)
+
+-- ---- where a run comes to stand, it does so behind its first step
+
+pub tick_comes : (prog : Program) (bound index : ℕ) (choices : List Choice) (c : Config) (s : Status) → c.status ≡ Going → c.wants ≡ [] → Comes prog bound index c choices s → Comes prog bound index (tick prog bound c) choices s
+tick_comes prog bound index choices c s going none h = at h.turns h.runs
+  where
+    at : (n : ℕ) → within n prog bound index c choices ≡ Some h.last → Comes prog bound index (tick prog bound c) choices s
+    at zero r = cc
+    at (suc n) r =
+        let one : turn prog bound index c c.status choices ≡ GoesOn index (tick prog bound c) choices = rw (going, none) refl in
+        record { turns = n; last = h.last; runs = rw one at r; is = h.is }
+
+pub choice_comes : (prog : Program) (bound index : ℕ) (x : Choice) (xs : List Choice) (c : Config) (w : Want) (ws : List Want) (s : Status) → c.status ≡ Going → c.wants ≡ w ∷ ws
+    → Comes prog bound index c (x ∷ xs) s → Comes prog bound (index + 1) (take_choice prog bound c index w ws x) xs s
+choice_comes prog bound index x xs c w ws s going asks h = at h.turns h.runs
+  where
+    at : (n : ℕ) → within n prog bound index c (x ∷ xs) ≡ Some h.last → Comes prog bound (index + 1) (take_choice prog bound c index w ws x) xs s
+    at zero r = cc
+    at (suc n) r =
+        let one : turn prog bound index c c.status (x ∷ xs) ≡ GoesOn (index + 1) (take_choice prog bound c index w ws x) xs = rw (going, asks) refl in
+        record { turns = n; last = h.last; runs = rw one at r; is = h.is }

@@ -7,3 +7,4 @@ pub mod Opening
 pub mod Going
 pub mod Taken
 pub mod Bad
+pub mod Asking

@@ -40,7 +40,7 @@ module _ (prog : Program) (bound : ℕ) (c : Config) (took : Took c) where
   arrive_took loops f rest to [] = outside_took f rest to (entry_of loops to)
   arrive_took loops f rest to (lap ∷ laps) = inside_took f rest to lap laps (way loops lap to) (arrive loops bound c f rest to laps) (arrive_took loops f rest to laps)
 
-  jump_took : (f : Frame) (rest : List Frame) (to : ℕ) → Took (jump prog bound c f rest to)
+  pub jump_took : (f : Frame) (rest : List Frame) (to : ℕ) → Took (jump prog bound c f rest to)
   jump_took f rest to = arrive_took (loops_of (slice_get prog.procs f.proc)) f rest to f.laps
 
   leave_took : (outs : List Var) (values : List Value) (rest : List Frame) → Took (leave c outs values rest)
@@ -87,7 +87,7 @@ module _ (prog : Program) (bound : ℕ) (c : Config) (took : Took c) where
   abbrev pub TookBefore : ℕ → Config → Type 0
   TookBefore index d = Took d ⊎ (d.status ≡ BadChoice index)
 
-  variable_took : (x : Var) (v : Value) (frames : List Frame) → Took (with_variable c x v frames)
+  pub variable_took : (x : Var) (v : Value) (frames : List Frame) → Took (with_variable c x v frames)
   variable_took x v [] = tt
   variable_took x v (f ∷ rest) = took
 
@@ -96,7 +96,7 @@ module _ (prog : Program) (bound : ℕ) (c : Config) (took : Took c) where
   went_to index [] (Some to) = inl tt
   went_to index (f ∷ rest) (Some to) = inl (jump_took f rest to)
 
-tested_took : (prog : Program) (c : Config) (ws : List Want) → Took c → Took (tested prog c ws)
+pub tested_took : (prog : Program) (c : Config) (ws : List Want) → Took c → Took (tested prog c ws)
 tested_took prog c (AConst s ∷ ws) took = took
 tested_took prog c [] took = either_way Took (are_allowed prog c.consts) c (with_status c Blocked) took tt
 tested_took prog c (AGlobal s ∷ ws) took = either_way Took (are_allowed prog c.consts) c (with_status c Blocked) took tt

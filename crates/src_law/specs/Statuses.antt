@@ -1,5 +1,5 @@
 -- Where runs stand: after each list of choices in exactly one place.
-use Rattle.std.specs.Prelude.{◌≡◌, ◌<◌, ℕ, List, ◌∷◌, ◌++◌, length, take, IsTrue}
+use Rattle.std.specs.Prelude.{◌≡◌, ◌<◌, ℕ, List, [], ◌∷◌, ◌++◌, length, take, IsTrue}
 use Rattle.src_prog.specs.Program.{Program}
 use Rattle.src_prog.specs.Shape.{is_program}
 use Rattle.src_run.specs.declared.machine.Choice.{Choice}
@@ -42,3 +42,11 @@ pub record BadChoicesAreFirst : Type 0 where
   pub stays : (prog : Program) (entry bound index : ℕ) (choices more : List Choice) → HasStatus prog entry bound choices (BadChoice index) → HasStatus prog entry bound (choices ++ more) (BadChoice index)
   pub first : (prog : Program) (entry bound index : ℕ) (choices : List Choice) → HasStatus prog entry bound choices (BadChoice index)
       → (index < length choices) × (status : Status) × AreTaken status × HasStatus prog entry bound (take index choices) status
+
+-- ---- what is asked for
+
+-- where the run of an entry of a program asks, some choice that comes next is taken
+abbrev pub EachAskCanBeMet : Type 0
+EachAskCanBeMet =
+    (prog : Program) → IsTrue (is_program prog) → (entry bound : ℕ) (choices : List Choice) → HasStatus prog entry bound choices Going
+    → (next : Choice) × (status : Status) × AreTaken status × HasStatus prog entry bound (choices ++ next ∷ []) status

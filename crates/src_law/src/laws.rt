@@ -1,5 +1,5 @@
 //! The laws, each the contract of a function that does nothing.
-ghost use Rattle.src_law.specs.Statuses.{StatusesAreUnique, EachListHasAStatus, BadChoicesAreFirst};
+ghost use Rattle.src_law.specs.Statuses.{StatusesAreUnique, EachListHasAStatus, BadChoicesAreFirst, EachAskCanBeMet};
 
 /// A run on a list of choices comes to stand with one status at most.
 pub fn statuses_are_unique()
@@ -16,4 +16,9 @@ pub fn each_list_has_a_status()
 /// change nothing.
 pub fn bad_choices_are_first()
     ensures { BadChoicesAreFirst }
+{}
+
+/// Where a run of a program asks for a choice, there is one that it takes.
+pub fn each_ask_can_be_met()
+    ensures { EachAskCanBeMet }
 {}

@@ -1,6 +1,8 @@
-//! Laws of the machine: on each list of choices a run comes to stand, with one status, and a bad choice is the first one.
+//! Laws of the machine: on each list of choices a run comes to stand, with one status, a bad choice is the first one, and what is asked for can be given.
 #![tactic(auto)]
 
 mod laws;
 
-pub use laws::{bad_choices_are_first, each_list_has_a_status, statuses_are_unique};
+pub use laws::{
+    bad_choices_are_first, each_ask_can_be_met, each_list_has_a_status, statuses_are_unique,
+};
