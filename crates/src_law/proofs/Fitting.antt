@@ -143,7 +143,7 @@ jump_lands prog bound c f rest to proc h e laps edge =
     let here = lands (length proc.blocks) proc.loops (loops_fit_in prog f.proc proc h e) bound c f rest f.block to edge f.laps laps.around (λ l k i a b p q. laps.all l k i a b) in
     rw e here
 
-jump_fits : (prog : Program) (bound : ℕ) (c : Config) (f : Frame) (rest : List Frame) (to : ℕ) → is_program prog ≡ true → Fits prog c → FrameFits prog f → FramesFit prog rest → TargetsFit prog (f ∷ rest) (to ∷ []) → Fits prog (jump prog bound c f rest to)
+pub jump_fits : (prog : Program) (bound : ℕ) (c : Config) (f : Frame) (rest : List Frame) (to : ℕ) → is_program prog ≡ true → Fits prog c → FrameFits prog f → FramesFit prog rest → TargetsFit prog (f ∷ rest) (to ∷ []) → Fits prog (jump prog bound c f rest to)
 jump_fits prog bound c f rest to h fit (proc, e, laps) behind target =
     at (jump prog bound c f rest to) (jump_lands prog bound c f rest to proc h e laps (edge_to proc.loops (length proc.blocks) f.block to (and-first (target_fits proc.loops (length proc.blocks) f.block to) true (target proc e))))
   where

@@ -8,3 +8,5 @@ pub mod Going
 pub mod Taken
 pub mod Bad
 pub mod Asking
+pub mod Falling
+pub mod Counting

@@ -1,4 +1,5 @@
 //! The laws, each the contract of a function that does nothing.
+ghost use Rattle.src_law.specs.OpenLoops.{OpenLoopsAreCountedOnce};
 ghost use Rattle.src_law.specs.Statuses.{StatusesAreUnique, EachListHasAStatus, BadChoicesAreFirst, EachAskCanBeMet};
 
 /// A run on a list of choices comes to stand with one status at most.
@@ -21,4 +22,11 @@ pub fn bad_choices_are_first()
 /// Where a run of a program asks for a choice, there is one that it takes.
 pub fn each_ask_can_be_met()
     ensures { EachAskCanBeMet }
+{}
+
+/// Wherever a run of a program is, the open loops of each frame are those of its procedure that hold
+/// its block, innermost first. No two have one head, so each loop has one count, and no count is
+/// above the bound.
+pub fn open_loops_are_counted_once()
+    ensures { OpenLoopsAreCountedOnce }
 {}
