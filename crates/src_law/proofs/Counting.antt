@@ -30,10 +30,10 @@ use Rattle.src_law.proofs.Falling.{are_around, heads_differ}
 use Rattle.src_law.proofs.Fitting.{Fits, FrameFits, FramesFit, TargetsFit, first_fits, locals_fit, variables_fit, loops_fit_in, next_fits_in, jump_fits, taken_fits, begin_fits}
 
 -- no count is above the bound
-abbrev LapsWithin : ℕ → List Lap → Type 0
+abbrev pub LapsWithin : ℕ → List Lap → Type 0
 LapsWithin bound laps = list_all (λ (lap : Lap). nat_le lap.count bound) laps ≡ true
 
-abbrev CountsWithin : ℕ → List Frame → Type 0
+abbrev pub CountsWithin : ℕ → List Frame → Type 0
 CountsWithin bound [] = Unit {0}
 CountsWithin bound (f ∷ rest) = LapsWithin bound f.laps × CountsWithin bound rest
 
@@ -69,7 +69,7 @@ module _ (bound : ℕ) (c : Config) (counts : CountsWithin bound c.frames) (f : 
   arrive_counts loops [] h = outside_counts (entry_of loops to)
   arrive_counts loops (lap ∷ laps) h = inside_counts lap laps h (way loops lap to) (arrive loops bound c f rest to laps) (arrive_counts loops laps (and-second (nat_le lap.count bound) _ h))
 
-jump_counts : (prog : Program) (bound : ℕ) (c : Config) (f : Frame) (rest : List Frame) (to : ℕ) → CountsWithin bound c.frames → CountsWithin bound (f ∷ rest) → CountsWithin bound (jump prog bound c f rest to).frames
+pub jump_counts : (prog : Program) (bound : ℕ) (c : Config) (f : Frame) (rest : List Frame) (to : ℕ) → CountsWithin bound c.frames → CountsWithin bound (f ∷ rest) → CountsWithin bound (jump prog bound c f rest to).frames
 jump_counts prog bound c f rest to counts here = arrive_counts bound c counts f rest to here.1 (loops_of (slice_get prog.procs f.proc)) f.laps here.0
 
 -- ---- a step
@@ -249,7 +249,7 @@ module _ (prog : Program) (bound : ℕ) where
   stays zero c = refl
   stays (suc turns) c = refl
 
-  turned_stands : (turns index : ℕ) (c : Config) (choices : List Choice) (last : Config) → within turns prog bound index c choices ≡ Some last → turned turns prog bound (GoesOn index c choices) ≡ Stands last
+  pub turned_stands : (turns index : ℕ) (c : Config) (choices : List Choice) (last : Config) → within turns prog bound index c choices ≡ Some last → turned turns prog bound (GoesOn index c choices) ≡ Stands last
   turned_stands zero index c choices last r = cc
   turned_stands (suc turns) index c choices last r = at (turned_stands turns) (turn prog bound index c c.status choices) r
     where

@@ -101,13 +101,13 @@ entry (l ∷ ls) to = at (entry ls to) (nat_eq l.head to) refl
     at rec false h = behind (entry_of ls to) (λ e. grind (arith, nat_tests)) rec
 
 -- what way gives
-abbrev IsWay : List SrcLoop → Lap → ℕ → Way → Type 0
+abbrev pub IsWay : List SrcLoop → Lap → ℕ → Way → Type 0
 IsWay loops lap to Again = lap.head ≡ to
 IsWay loops lap to (Enter exit) = (lap.head < to) × (to < lap.exit) × IsLoop loops to exit
 IsWay loops lap to Stay = (lap.head < to) × (to < lap.exit) × ((e : ℕ) → IsLoop loops to e → ⊥)
 IsWay loops lap to Out = lap.head ≤ to → to < lap.exit → ⊥
 
-way_is : (loops : List SrcLoop) (lap : Lap) (to : ℕ) → IsWay loops lap to (way loops lap to)
+pub way_is : (loops : List SrcLoop) (lap : Lap) (to : ℕ) → IsWay loops lap to (way loops lap to)
 way_is loops lap to = first (nat_eq lap.head to) refl
   where
     within : (w : Way) → lap.head < to → to < lap.exit → IsEntry loops to w → IsWay loops lap to w

@@ -10,3 +10,5 @@ pub mod Bad
 pub mod Asking
 pub mod Falling
 pub mod Counting
+pub mod Causing
+pub mod Stacking

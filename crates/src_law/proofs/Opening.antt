@@ -28,7 +28,7 @@ other p g fs e = rw e refl
 same : (p : ℕ) (g : Frame) (fs : List Frame) → nat_eq g.proc p ≡ true → opened p (g ∷ fs) ≡ suc (opened p fs)
 same p g fs e = rw e refl
 
-opened_more : (p : ℕ) (g : Frame) (fs : List Frame) → opened p fs ≤ opened p (g ∷ fs)
+pub opened_more : (p : ℕ) (g : Frame) (fs : List Frame) → opened p fs ≤ opened p (g ∷ fs)
 opened_more p g fs = at (nat_eq g.proc p)
   where
     at : (b : Bool) → opened p fs ≤ (if b then suc (opened p fs) else opened p fs)

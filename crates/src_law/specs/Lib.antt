@@ -1,2 +1,4 @@
 pub mod Statuses
 pub mod OpenLoops
+pub mod Causes
+pub mod OpenFrames

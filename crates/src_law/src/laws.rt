@@ -1,4 +1,6 @@
 //! The laws, each the contract of a function that does nothing.
+ghost use Rattle.src_law.specs.Causes.{StatusesHaveCauses};
+ghost use Rattle.src_law.specs.OpenFrames.{OpenFramesAreBounded};
 ghost use Rattle.src_law.specs.OpenLoops.{OpenLoopsAreCountedOnce};
 ghost use Rattle.src_law.specs.Statuses.{StatusesAreUnique, EachListHasAStatus, BadChoicesAreFirst, EachAskCanBeMet};
 
@@ -29,4 +31,20 @@ pub fn each_ask_can_be_met()
 /// above the bound.
 pub fn open_loops_are_counted_once()
     ensures { OpenLoopsAreCountedOnce }
+{}
+
+/// The cause of a run's end can be seen where the run stands, if the run is one of a program. Ended:
+/// no frame is open. Failed: the next command is the assert that the status names, and it is false.
+/// Blocked: the constants are not allowed, or the next command is an assumption that is false; never
+/// for want of a procedure, a block, a target or a frame, where the entry is there. Cut: the next
+/// command calls a procedure that has as many open frames as the bound, or the block's end has an
+/// edge back to the head of an open loop whose count is the bound.
+pub fn statuses_have_causes()
+    ensures { StatusesHaveCauses }
+{}
+
+/// Wherever a run is, no more frames of a procedure are open than the bound allows, but one of the
+/// entry where the bound is 0.
+pub fn open_frames_are_bounded()
+    ensures { OpenFramesAreBounded }
 {}
