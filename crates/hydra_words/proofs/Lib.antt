@@ -1,0 +1,2 @@
+pub mod NumberReadings
+pub mod OptionSteps
