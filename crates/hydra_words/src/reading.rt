@@ -1,6 +1,7 @@
 //! Reads a command.
 
-ghost use Rattle.std.specs.Prelude.{◌≡◌, ◌≤◌, length};
+ghost use Rattle.std.specs.Prelude.{◌≡◌, IfOk};
+ghost use Rattle.hydra_words.specs.Forms.{IsInRange};
 ghost use Rattle.hydra_words.specs.Words.{Gives, command_of, command_named, check_of, solo_of, replay_of, show_of, gen_of, bound_at};
 
 use crate::command::{Command, WordFault, WordKind};
@@ -12,7 +13,8 @@ use std::alloc::Global;
 /// The command that the words are, or the first word that breaks the rule.
 #[tactic(auto, unfolding(crate::specs::Words::command_of))]
 pub fn read_words(alloc: Global, words: &[Text]) -> Result<Command, Or<WordFault>>
-    ensures { Gives result (command_of words.now) }
+    ensures answer { Gives result (command_of words.now) }
+    ensures ranges { IfOk result IsInRange }
 {
     let name = text_at(words, 0)?;
     command_named(alloc, name.as_str(), words)
