@@ -1,5 +1,5 @@
 -- The words that read as a command are its words.
-use Rattle.std.proofs.Common.{◌≡◌, ◌↔◌, ℕ, ◌+◌, ◌<◌, Bool, true, false, List, [], ◌∷◌, Result, Ok, Err, refl, ap, ◌∙◌, length, nat_le, arith, codes, if◌then◌else◌}
+use Rattle.std.proofs.Common.{◌≡◌, ℕ, ◌<◌, Bool, true, false, List, [], ◌∷◌, Result, Ok, refl, length, nat_le, arith, codes, if◌then◌else◌}
 use Rattle.std.proofs.lemmas.Bool.Decides.{nat_tests}
 use Rattle.std.proofs.lemmas.Slice.Eq.{bytes_eq-Decides}
 use Rattle.std.specs.Str.{bytes_eq}
@@ -7,8 +7,8 @@ use Rattle.hydra_words.specs.declared.command.Command.{Command}
 use Rattle.hydra_words.specs.declared.command.Command.TheVariants.{Check, Solo, Replay, Show, Gen}
 use Rattle.hydra_words.specs.declared.command.WordFault.{WordFault}
 use Rattle.hydra_words.specs.declared.command.WordKind.TheVariants.{Unexpected}
-use Rattle.hydra_words.specs.Words.{◌>>=◌, refused, text_at, number_in, ended_at, with_words, no_options, command_named, command_of, check_of, solo_of, replay_of, show_of, gen_of, grain_of}
-use Rattle.hydra_words.specs.Forms.{Writes, AreOptions, AreWordsOf, ReadsCommandsExactly}
+use Rattle.hydra_words.specs.Words.{◌>>=◌, refused, text_at, number_in, ended_at, with_words, no_options, command_of, check_of, solo_of, replay_of, show_of, gen_of, grain_of}
+use Rattle.hydra_words.specs.Forms.{AreWordsOf, ReadsCommandsExactly}
 use Rattle.hydra_words.specs.Forms.AreWordsOf.{check, solo, replay, show, gen}
 use Rattle.hydra_words.proofs.FormsRead.{number_in-written, with_words-options}
 use Rattle.hydra_words.proofs.FormsOnly.{bind_ok, number_in-only, with_words-only}

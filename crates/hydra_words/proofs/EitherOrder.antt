@@ -1,12 +1,12 @@
 -- The options in either order.
-use Rattle.std.proofs.Common.{◌≡◌, ◌↔◌, ℕ, ◌+◌, Bool, false, true, List, [], ◌∷◌, ◌++◌, Result, Ok, Err, refl, codes}
+use Rattle.std.proofs.Common.{◌≡◌, ℕ, ◌+◌, false, true, List, [], ◌∷◌, Result, Ok, Err, codes}
 use Rattle.hydra_words.specs.declared.command.Command.{Command}
 use Rattle.hydra_words.specs.declared.command.Command.TheVariants.{Check, Solo}
 use Rattle.hydra_words.specs.declared.command.WordFault.{WordFault}
 use Rattle.hydra_words.specs.declared.options.Options.{Options}
-use Rattle.hydra_words.specs.declared.options.Grain.TheVariants.{NotGiven, Due, Given}
+use Rattle.hydra_words.specs.declared.options.Grain.TheVariants.{Due, Given}
 use Rattle.hydra_words.specs.Words.{◌>>=◌, text_at, number_in, with_grain, with_word, with_words, no_options, grain_of, command_of}
-use Rattle.hydra_words.specs.Forms.{MayChangePlaces, OptionsInEitherOrder}
+use Rattle.hydra_words.specs.Forms.{OptionsInEitherOrder}
 use Rattle.hydra_words.proofs.FormsOnly.{bind_ok, due}
 use Rattle.hydra_words.proofs.FormsRead.{number_in-written}
 

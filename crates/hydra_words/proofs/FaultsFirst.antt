@@ -1,5 +1,5 @@
 -- The fault that is told is that of the first word with which no command goes on.
-use Rattle.std.proofs.Common.{◌≡◌, ◌≢◌, ℕ, ◌+◌, ◌≤◌, ◌<◌, ◌⊎◌, inl, inr, Bool, true, false, List, [], ◌∷◌, ◌++◌, Result, Ok, Err, refl, sym, ap, ◌∙◌, subst, length, take, zero-add, append_assoc, length-append, nat_le, arith, codes, if◌then◌else◌}
+use Rattle.std.proofs.Common.{◌≡◌, ◌≢◌, ℕ, ◌+◌, ◌≤◌, ◌<◌, ◌⊎◌, inl, inr, Bool, true, false, List, [], ◌∷◌, ◌++◌, Result, Ok, Err, refl, sym, ap, ◌∙◌, length, take, append_assoc, length-append, nat_le, arith, codes, if◌then◌else◌}
 use Rattle.std.proofs.Math.Seq.{take-length, take-append_seam, take-append-add}
 use Rattle.std.proofs.lemmas.List.{append-nil}
 use Rattle.std.proofs.lemmas.Bool.Decides.{nat_tests}
@@ -15,8 +15,8 @@ use Rattle.hydra_words.specs.declared.command.WordKind.TheVariants.{Missing, Une
 use Rattle.hydra_words.specs.declared.options.Options.{Options}
 use Rattle.hydra_words.specs.declared.options.Grain.{Grain}
 use Rattle.hydra_words.specs.declared.options.Grain.TheVariants.{NotGiven, Due, Given}
-use Rattle.hydra_words.specs.Words.{◌>>=◌, refused, text_at, in_range, number_in, ended_at, once, is_given, is_due, with_name, with_grain, with_word, with_words, no_options, grain_of, command_named, command_of, check_of, solo_of, replay_of, show_of, gen_of}
-use Rattle.hydra_words.specs.Forms.{Writes, AreOptions, AreWordsOf}
+use Rattle.hydra_words.specs.Words.{◌>>=◌, refused, text_at, in_range, number_in, ended_at, once, is_given, is_due, with_name, with_grain, with_word, with_words, no_options, grain_of, command_of}
+use Rattle.hydra_words.specs.Forms.{Writes, AreWordsOf}
 use Rattle.hydra_words.specs.Forms.AreOptions.{neither}
 use Rattle.hydra_words.specs.Forms.AreWordsOf.{check, solo, replay, show, gen}
 use Rattle.hydra_words.specs.Faults.{IsFirst, FaultsAreFirst}

@@ -1,11 +1,10 @@
 -- What reads as a command is of its form.
-use Rattle.std.proofs.Common.{◌≡◌, ℕ, ◌+◌, ◌≤◌, ◌⊎◌, inl, inr, Bool, true, false, ◌&&◌, List, [], ◌∷◌, Result, Ok, Err, refl, ap, ◌∙◌, sym, subst, nat_le, arith, codes, if◌then◌else◌}
+use Rattle.std.proofs.Common.{◌≡◌, ℕ, ◌+◌, ◌⊎◌, inl, inr, Bool, true, false, List, [], ◌∷◌, Result, Ok, Err, refl, ap, ◌∙◌, arith, codes, if◌then◌else◌}
 use Rattle.std.proofs.lemmas.Bool.Decides.{nat_tests}
 use Rattle.std.proofs.lemmas.Slice.Eq.{bytes_eq-Decides}
 use Rattle.std.specs.Str.{bytes_eq}
 use Rattle.std.specs.Str.Parse.{digits_value}
 use Rattle.hy_text.specs.Number.{are_digits}
-use Rattle.hydra_words.specs.declared.command.Command.{Command}
 use Rattle.hydra_words.specs.declared.command.WordFault.{WordFault}
 use Rattle.hydra_words.specs.declared.command.WordKind.TheVariants.{NotNumber, OutOfRange, Unexpected}
 use Rattle.hydra_words.specs.declared.options.Options.{Options}

@@ -1,13 +1,10 @@
 -- The words of a command read as it.
-use Rattle.std.proofs.Common.{◌≡◌, ℕ, ◌+◌, ◌≤◌, Bool, true, false, List, [], ◌∷◌, Ok, refl, ap, ◌∙◌, sym, nat_le, arith, codes}
+use Rattle.std.proofs.Common.{◌≡◌, ℕ, ◌+◌, ◌≤◌, Bool, true, false, List, Ok, refl, arith}
 use Rattle.std.proofs.lemmas.Bool.Decides.{nat_tests}
-use Rattle.std.specs.Str.Parse.{digits_value}
-use Rattle.hy_text.specs.Number.{are_digits}
-use Rattle.hydra_words.specs.declared.command.Command.{Command}
 use Rattle.hydra_words.specs.declared.options.Options.{Options}
-use Rattle.hydra_words.specs.declared.options.Grain.TheVariants.{NotGiven, Due, Given}
-use Rattle.hydra_words.specs.Words.{◌>>=◌, text_at, number_in, in_range, ranged, ended_at, with_word, with_words, no_options, options_from, command_of, grain_of}
-use Rattle.hydra_words.specs.Forms.{Writes, AreOptions, AreWordsOf}
+use Rattle.hydra_words.specs.declared.options.Grain.TheVariants.{NotGiven, Given}
+use Rattle.hydra_words.specs.Words.{number_in, in_range, with_word, with_words, no_options, grain_of}
+use Rattle.hydra_words.specs.Forms.{Writes, AreOptions}
 use Rattle.hydra_words.specs.Forms.AreOptions.{neither, journal_alone, grain_alone, grain_first, journal_first}
 
 within : (low high n : ℕ) → low ≤ n → n ≤ high → in_range low high n ≡ true

@@ -1,10 +1,10 @@
 -- The numbers of a command that is read are in their ranges.
-use Rattle.std.proofs.Common.{◌≡◌, ℕ, ◌≤◌, Bool, List, Result, Ok, Err, IfOk, arith}
+use Rattle.std.proofs.Common.{ℕ, ◌≤◌, Bool, List, Result, Ok, Err, IfOk, arith}
 use Rattle.hy_text.specs.declared.refusal.Or.{Or}
 use Rattle.hydra_words.specs.declared.command.Command.{Command}
 use Rattle.hydra_words.specs.declared.command.WordFault.{WordFault}
 use Rattle.hydra_words.specs.Words.{Gives, command_of}
-use Rattle.hydra_words.specs.Forms.{Writes, AreOptions, AreWordsOf, IsInRange}
+use Rattle.hydra_words.specs.Forms.{AreOptions, AreWordsOf, IsInRange}
 use Rattle.hydra_words.specs.Forms.AreOptions.{neither, journal_alone, grain_alone, grain_first, journal_first}
 use Rattle.hydra_words.specs.Forms.AreWordsOf.{check, solo, replay, show, gen}
 use Rattle.hydra_words.proofs.CommandsExact.{commands_exact}

@@ -5,7 +5,7 @@ use Rattle.std.specs.Str.Parse.{digits_value}
 use Rattle.hy_text.specs.Number.{are_digits, fitting, number_of}
 use Rattle.hy_text.specs.declared.number.NumFault.TheVariants.{NotDigits, TooLarge}
 use Rattle.hydra_words.specs.declared.command.WordKind.TheVariants.{OutOfRange, NotNumber}
-use Rattle.hydra_words.specs.Words.{number_in, ranged, refused, in_range}
+use Rattle.hydra_words.specs.Words.{number_in, ranged, refused}
 
 fits : (c : Bool) (v n : ℕ) → (if c then Ok v else Err TooLarge) ≡ Ok n → v ≡ n
 fits true v n h = cc

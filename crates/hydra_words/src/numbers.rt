@@ -55,8 +55,8 @@ pub fn number_at(words: &[Text], index: usize, low: u32, high: u32) -> Result<u3
     number_in(low, high, index, text_at(words, index)?)
 }
 
-#[tactic(auto, unfolding(crate::specs::Words::ended_at))]
 /// Nothing, where no word stands at a place or behind it; else Unexpected, at that place.
+#[tactic(auto, unfolding(crate::specs::Words::ended_at))]
 pub fn ended_at(words: &[Text], index: usize) -> Result<(), WordFault>
     ensures { MatchResult result (λ _. ended_at words.now index ≡ Ok true) (λ fault. ended_at words.now index ≡ Err fault) }
 {

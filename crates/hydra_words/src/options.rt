@@ -8,7 +8,7 @@ use crate::numbers::number_in;
 use hy_text::Text;
 
 /// How far `--grain` is read.
-#[derive(Clone, Copy, Debug)]
+#[derive(Clone, Copy)]
 pub enum Grain {
     /// It isn't given.
     NotGiven,
@@ -19,7 +19,7 @@ pub enum Grain {
 }
 
 /// What the options say that are read so far.
-#[derive(Clone, Copy, Debug)]
+#[derive(Clone, Copy)]
 pub struct Options {
     /// How far `--grain` is read.
     pub grain: Grain,

@@ -10,7 +10,13 @@ use crate::options::options_from;
 use hy_text::{Or, Text};
 use std::alloc::Global;
 
-/// The command that the words are, or the first word that breaks the rule.
+/// The command that the words are, or the first word that breaks the rule. Memory is taken for the
+/// texts of a command alone, so a fault needs none.
+///
+/// Missing comes at the number of words, where one more is due; Unexpected at a name that no
+/// command or option has, and at a word too many; NotNumber where a number is due, at a word that
+/// is empty or has a byte that is no digit; OutOfRange at a number outside its range; Repeated at
+/// the name of an option that is given before.
 #[tactic(auto, unfolding(crate::specs::Words::command_of))]
 pub fn read_words(alloc: Global, words: &[Text]) -> Result<Command, Or<WordFault>>
     ensures answer { Gives result (command_of words.now) }
