@@ -11,7 +11,8 @@ use Rattle.bpl_ast.specs.declared.expr.Bracket.TheFolds.{the_lemmas}
 use Rattle.bpl_ast.specs.declared.expr.Expr.{Expr}
 use Rattle.bpl_ast.specs.declared.expr.Expr.TheVariants as e
 use Rattle.bpl_alike.specs.Behind.{behind}
-use Rattle.bpl_alike.proofs.ExprLaws.{NoPost, no_brackets, whole_same}
+use Rattle.bpl_alike.specs.Groups.{NoPost}
+use Rattle.bpl_alike.proofs.ExprLaws.{no_brackets, whole_same}
 use Rattle.bpl_alike.proofs.Weights.{bracket_weight}
 
 -- ---- two lists with backs of one length

@@ -8,6 +8,7 @@ use Rattle.bpl_ast.specs.declared.expr.Expr.{Expr, out-Expr, roll-Expr}
 use Rattle.bpl_ast.specs.declared.expr.Expr.TheVariants as e
 use Rattle.bpl_ast.specs.declared.expr.Expr.TheVariants.{rolls-Post}
 use Rattle.bpl_ast.specs.declared.name.Name.{Name}
+use Rattle.bpl_alike.specs.Groups.{NoPost}
 
 -- a node whose offsets are 0 and whose children are bare
 abbrev pub layer : Expr-F Bracket Expr → Expr-F Bracket Expr
@@ -161,10 +162,6 @@ both x y m n p q same = (λ h. ap bare_expr p ∙ (back x y m n (same.0 h) ∙ s
 -- a value that is opened to this node
 pub turned : (b : Expr) (z : Expr-F Bracket Expr) → out-Expr b ≡ z → b ≡ roll-Expr z
 turned b z is = sym (opened b) ∙ ap roll-Expr is
-
--- no operand with brackets, by its kind
-abbrev pub NoPost : Expr → Type 0
-NoPost b = (at : ℕ) (x : Expr) (bs : List Bracket) → b ≡ e.Post at x bs → ⊥
 
 plain_node : (b : Expr) (z : Expr-F Bracket Expr) → out-Expr b ≡ z → NoPost b → IsPlain z
 plain_node b (Expr-F.Post at x bs) is isnt = isnt at x bs (turned b (Expr-F.Post at x bs) is ∙ rolls-Post at x bs)

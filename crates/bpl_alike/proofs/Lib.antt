@@ -2,6 +2,7 @@ pub mod BehindLaws
 pub mod BracketLaws
 pub mod ElseLaws
 pub mod ExprLaws
+pub mod GroupLaws
 pub mod ListLaws
 pub mod SortLaws
 pub mod StmtLaws

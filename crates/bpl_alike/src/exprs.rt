@@ -3,6 +3,8 @@
 ghost use Rattle.std.specs.Prelude.{◌≡◌, ◌↔◌, map, true};
 ghost use Rattle.bpl_ast.specs.Alike.{bare_bracket, bare_expr, spine};
 ghost use Rattle.bpl_alike.specs.Behind.{behind};
+ghost use Rattle.bpl_alike.specs.Groups.{expr_group, NoPost};
+ghost use Rattle.bpl_alike.specs.Groups.ExprGroup.{Leaf, Listed, Compared, Logical};
 
 use crate::lists::Compare;
 use bpl_ast::{Bracket, Expr};
@@ -10,6 +12,7 @@ use sqlite_items::{Boxed, Items};
 
 /// Whether two expressions are alike.
 #[cycle(expressions)]
+#[tactic(auto, using(crate::proofs::GroupLaws::expr_groups))]
 fn exprs(a: &Expr, b: &Expr) -> bool
     ensures { result ≡ true ↔ bare_expr a.now ≡ bare_expr b.now }
 {
@@ -21,6 +24,32 @@ fn exprs(a: &Expr, b: &Expr) -> bool
     {
         return rest(a, y.get(), q.as_slice());
     }
+    match a {
+        Expr::Post {
+            operand: x,
+            brackets: p,
+            ..
+        } => rest(b, x.get(), p.as_slice()),
+        Expr::True { .. } | Expr::False { .. } | Expr::Literal { .. } | Expr::Variable { .. } =>
+            leaves(a, b),
+        Expr::Equal { .. } | Expr::NotEqual { .. } => comparisons(a, b),
+        Expr::Not { .. } | Expr::Implies { .. } | Expr::Choice { .. } => connectives(a, b),
+        Expr::Apply { .. }
+        | Expr::Concat { .. }
+        | Expr::And { .. }
+        | Expr::Or { .. }
+        | Expr::ImpliedBy { .. }
+        | Expr::Equivalent { .. } => applications(a, b),
+    }
+}
+
+/// Whether two expressions are alike, the first of which is a constant or a variable.
+#[tactic(auto, using(crate::proofs::GroupLaws::expr_groups))]
+fn leaves(a: &Expr, b: &Expr) -> bool
+    requires grouped { expr_group a.now ≡ Leaf }
+    requires no_brackets { NoPost b.now }
+    ensures { result ≡ true ↔ bare_expr a.now ≡ bare_expr b.now }
+{
     match (a, b) {
         (Expr::True { .. }, Expr::True { .. }) => true,
         (Expr::False { .. }, Expr::False { .. }) => true,
@@ -37,6 +66,19 @@ fn exprs(a: &Expr, b: &Expr) -> bool
             },
         ) => { w == v && x == y }
         (Expr::Variable { name: x }, Expr::Variable { name: y }) => x.is_like(y),
+        _ => false,
+    }
+}
+
+/// Whether two expressions are alike, the first of which has its operands in a list.
+#[cycle(expressions)]
+#[tactic(auto, using(crate::proofs::GroupLaws::expr_groups))]
+fn applications(a: &Expr, b: &Expr) -> bool
+    requires grouped { expr_group a.now ≡ Listed }
+    requires no_brackets { NoPost b.now }
+    ensures { result ≡ true ↔ bare_expr a.now ≡ bare_expr b.now }
+{
+    match (a, b) {
         (
             Expr::Apply {
                 function: f,
@@ -47,60 +89,78 @@ fn exprs(a: &Expr, b: &Expr) -> bool
                 arguments: y,
             },
         ) => { f.is_like(g) && operands(x, y) }
-        (
-            Expr::Post {
-                operand: x,
-                brackets: p,
-                ..
-            },
-            _,
-        ) => rest(b, x.get(), p.as_slice()),
-        (Expr::Not { operand: x, .. }, Expr::Not { operand: y, .. }) => boxes(x, y),
         (Expr::Concat { operands: x, .. }, Expr::Concat { operands: y, .. }) => { operands(x, y) }
-        (
-            Expr::Equal {
-                left: x,
-                right: z,
-                ..
-            },
-            Expr::Equal {
-                left: y,
-                right: w,
-                ..
-            },
-        ) => { boxes(x, y) && boxes(z, w) }
-        (
-            Expr::NotEqual {
-                left: x,
-                right: z,
-                ..
-            },
-            Expr::NotEqual {
-                left: y,
-                right: w,
-                ..
-            },
-        ) => { boxes(x, y) && boxes(z, w) }
         (Expr::And { operands: x, .. }, Expr::And { operands: y, .. }) => { operands(x, y) }
         (Expr::Or { operands: x, .. }, Expr::Or { operands: y, .. }) => { operands(x, y) }
-        (
-            Expr::Implies {
-                left: x,
-                right: z,
-                ..
-            },
-            Expr::Implies {
-                left: y,
-                right: w,
-                ..
-            },
-        ) => { boxes(x, y) && boxes(z, w) }
         (Expr::ImpliedBy { operands: x, .. }, Expr::ImpliedBy { operands: y, .. }) => {
             operands(x, y)
         }
         (Expr::Equivalent { operands: x, .. }, Expr::Equivalent { operands: y, .. }) => {
             operands(x, y)
         }
+        _ => false,
+    }
+}
+
+/// Whether two expressions are alike, the first of which compares two operands.
+#[cycle(expressions)]
+#[tactic(auto, using(crate::proofs::GroupLaws::expr_groups))]
+fn comparisons(a: &Expr, b: &Expr) -> bool
+    requires grouped { expr_group a.now ≡ Compared }
+    requires no_brackets { NoPost b.now }
+    ensures { result ≡ true ↔ bare_expr a.now ≡ bare_expr b.now }
+{
+    match (a, b) {
+        (
+            Expr::Equal {
+                left: x,
+                right: z,
+                ..
+            },
+            Expr::Equal {
+                left: y,
+                right: w,
+                ..
+            },
+        ) => { boxes(x, y) && boxes(z, w) }
+        (
+            Expr::NotEqual {
+                left: x,
+                right: z,
+                ..
+            },
+            Expr::NotEqual {
+                left: y,
+                right: w,
+                ..
+            },
+        ) => { boxes(x, y) && boxes(z, w) }
+        _ => false,
+    }
+}
+
+/// Whether two expressions are alike, the first of which is a negation, an implication or a choice.
+#[cycle(expressions)]
+#[tactic(auto, using(crate::proofs::GroupLaws::expr_groups))]
+fn connectives(a: &Expr, b: &Expr) -> bool
+    requires grouped { expr_group a.now ≡ Logical }
+    requires no_brackets { NoPost b.now }
+    ensures { result ≡ true ↔ bare_expr a.now ≡ bare_expr b.now }
+{
+    match (a, b) {
+        (Expr::Not { operand: x, .. }, Expr::Not { operand: y, .. }) => boxes(x, y),
+        (
+            Expr::Implies {
+                left: x,
+                right: z,
+                ..
+            },
+            Expr::Implies {
+                left: y,
+                right: w,
+                ..
+            },
+        ) => { boxes(x, y) && boxes(z, w) }
         (
             Expr::Choice {
                 condition: f,

@@ -1,6 +1,8 @@
 //! Statements: a recursion by the levels of both.
 ghost use Rattle.std.specs.Prelude.{◌≡◌, ◌↔◌, map, true};
 ghost use Rattle.bpl_ast.specs.Alike.{bare_guard, bare_target, bare_invariant, bare_stmt, bare_if, bare_else};
+ghost use Rattle.bpl_alike.specs.Groups.{stmt_group};
+ghost use Rattle.bpl_alike.specs.Groups.StmtGroup.{Claim, Update, Called, Jump};
 
 use crate::lists::{Compare, lists, options};
 use bpl_ast::{Else, Guard, If, Invariant, Stmt, Target};
@@ -35,13 +37,13 @@ impl Compare for Invariant {
     }
 }
 
-/// Whether two statements are alike.
-#[cycle(statements)]
-fn stmts(a: &Stmt, b: &Stmt) -> bool
+/// Whether two statements are alike, the first of which is an `assert` or an `assume`.
+#[tactic(auto, using(crate::proofs::GroupLaws::stmt_groups))]
+fn claims(a: &Stmt, b: &Stmt) -> bool
+    requires { stmt_group a.now ≡ Claim }
     ensures { result ≡ true ↔ bare_stmt a.now ≡ bare_stmt b.now }
 {
     match (a, b) {
-        (Stmt::Label { name: x }, Stmt::Label { name: y }) => x.is_like(y),
         (
             Stmt::Assert {
                 attributes: f,
@@ -66,6 +68,17 @@ fn stmts(a: &Stmt, b: &Stmt) -> bool
                 ..
             },
         ) => { lists(f.as_slice(), g.as_slice()) && x.is_like(y) }
+        _ => false,
+    }
+}
+
+/// Whether two statements are alike, the first of which is a `havoc` or an assignment.
+#[tactic(auto, using(crate::proofs::GroupLaws::stmt_groups))]
+fn updates(a: &Stmt, b: &Stmt) -> bool
+    requires { stmt_group a.now ≡ Update }
+    ensures { result ≡ true ↔ bare_stmt a.now ≡ bare_stmt b.now }
+{
+    match (a, b) {
         (
             Stmt::Havoc {
                 attributes: f,
@@ -78,6 +91,61 @@ fn stmts(a: &Stmt, b: &Stmt) -> bool
                 ..
             },
         ) => { lists(f.as_slice(), g.as_slice()) && lists(x.as_slice(), y.as_slice()) }
+        (
+            Stmt::Assign {
+                targets: x,
+                values: z,
+                ..
+            },
+            Stmt::Assign {
+                targets: y,
+                values: w,
+                ..
+            },
+        ) => { lists(x.as_slice(), y.as_slice()) && lists(z.as_slice(), w.as_slice()) }
+        _ => false,
+    }
+}
+
+/// Whether two statements are alike, the first of which is a `call`.
+#[tactic(auto, using(crate::proofs::GroupLaws::stmt_groups))]
+fn calls(a: &Stmt, b: &Stmt) -> bool
+    requires { stmt_group a.now ≡ Called }
+    ensures { result ≡ true ↔ bare_stmt a.now ≡ bare_stmt b.now }
+{
+    match (a, b) {
+        (
+            Stmt::Call {
+                attributes: f,
+                outs: x,
+                procedure: p,
+                arguments: z,
+                ..
+            },
+            Stmt::Call {
+                attributes: g,
+                outs: y,
+                procedure: q,
+                arguments: w,
+                ..
+            },
+        ) => {
+            lists(f.as_slice(), g.as_slice())
+                && (lists(x.as_slice(), y.as_slice())
+                    && (p.is_like(q) && lists(z.as_slice(), w.as_slice())))
+        }
+        _ => false,
+    }
+}
+
+/// Whether two statements are alike, the first of which is a label, a `goto`, a `return` or a `break`.
+#[tactic(auto, using(crate::proofs::GroupLaws::stmt_groups))]
+fn jumps(a: &Stmt, b: &Stmt) -> bool
+    requires { stmt_group a.now ≡ Jump }
+    ensures { result ≡ true ↔ bare_stmt a.now ≡ bare_stmt b.now }
+{
+    match (a, b) {
+        (Stmt::Label { name: x }, Stmt::Label { name: y }) => x.is_like(y),
         (
             Stmt::Goto {
                 attributes: f,
@@ -105,38 +173,20 @@ fn stmts(a: &Stmt, b: &Stmt) -> bool
                 ..
             },
         ) => { lists(f.as_slice(), g.as_slice()) && options(x, y) }
-        (
-            Stmt::Assign {
-                targets: x,
-                values: z,
-                ..
-            },
-            Stmt::Assign {
-                targets: y,
-                values: w,
-                ..
-            },
-        ) => { lists(x.as_slice(), y.as_slice()) && lists(z.as_slice(), w.as_slice()) }
-        (
-            Stmt::Call {
-                attributes: f,
-                outs: x,
-                procedure: p,
-                arguments: z,
-                ..
-            },
-            Stmt::Call {
-                attributes: g,
-                outs: y,
-                procedure: q,
-                arguments: w,
-                ..
-            },
-        ) => {
-            lists(f.as_slice(), g.as_slice())
-                && (lists(x.as_slice(), y.as_slice())
-                    && (p.is_like(q) && lists(z.as_slice(), w.as_slice())))
-        }
+        _ => false,
+    }
+}
+
+/// Whether two statements are alike.
+#[cycle(statements)]
+#[tactic(auto, using(crate::proofs::GroupLaws::stmt_groups))]
+fn stmts(a: &Stmt, b: &Stmt) -> bool
+    ensures { result ≡ true ↔ bare_stmt a.now ≡ bare_stmt b.now }
+{
+    match (a, b) {
+        (Stmt::Assert { .. } | Stmt::Assume { .. }, _) => claims(a, b),
+        (Stmt::Havoc { .. } | Stmt::Assign { .. }, _) => updates(a, b),
+        (Stmt::Call { .. }, _) => calls(a, b),
         (Stmt::If { inner: x }, Stmt::If { inner: y }) => ifs(x, y),
         (
             Stmt::While {
@@ -158,6 +208,8 @@ fn stmts(a: &Stmt, b: &Stmt) -> bool
                 && (p.is_like(q)
                     && (lists(x.as_slice(), y.as_slice()) && blocks(z.as_slice(), w.as_slice())))
         }
+        (Stmt::Label { .. } | Stmt::Goto { .. } | Stmt::Return { .. } | Stmt::Break { .. }, _) =>
+            jumps(a, b),
         _ => false,
     }
 }
