@@ -20,6 +20,7 @@ use Rattle.src_prog.specs.declared.proc.Named.{Named}
 use Rattle.src_prog.specs.declared.proc.SrcLoop.{SrcLoop}
 use Rattle.src_prog.specs.declared.proc.SrcProc.{SrcProc}
 use Rattle.src_run.proofs.Environments.{and-first, and-second, all-at}
+use Rattle.src_run.proofs.Programs.{proc_fits, next_fits_in, cmd_fits_in}
 use Rattle.src_run.specs.declared.machine.Choice.{Choice}
 use Rattle.src_run.specs.declared.machine.Choice.TheVariants.{Go, Val}
 use Rattle.src_run.specs.declared.machine.Status.{Status}
@@ -28,7 +29,6 @@ use Rattle.src_run.specs.Machine.{Config, Frame, Lap, Want, Way, Again, Enter, S
 use Rattle.src_law.specs.Causes.{Place, HasConstsNotAllowed, IsAtFalseAssume, IsAtFalseAssert, IsAtFullCall, IsAtFullLoop, StatusesHaveCauses}
 use Rattle.src_law.specs.OpenLoops.{config_of, turned}
 use Rattle.src_law.proofs.Laps.{IsWay, way_is}
-use Rattle.src_law.proofs.Fitting.{proc_fits, next_fits_in, cmd_fits_in}
 use Rattle.src_law.proofs.Counting.{LapsWithin, CountsWithin, jump_counts, turned_stands}
 
 -- ---- places

@@ -1,5 +1,5 @@
 -- Runs that come to stand.
-use Rattle.std.proofs.Common.{◌≡◌, ℕ, zero, suc, ◌+◌, Bool, true, false, if◌then◌else◌, List, [], ◌∷◌, refl, inl, inr, ◌⊎◌, Some}
+use Rattle.std.proofs.Common.{◌≡◌, ℕ, zero, suc, ◌+◌, List, [], ◌∷◌, refl, inl, inr, ◌⊎◌, Some}
 use Rattle.src_prog.specs.Program.{Program}
 use Rattle.src_run.specs.declared.machine.Choice.{Choice}
 use Rattle.src_run.specs.declared.machine.Status.{Status}
@@ -9,10 +9,6 @@ use Rattle.src_run.specs.Machine.{Config, Want, Stands, GoesOn, tick, take_choic
 -- whatever the next choice's index, the run has a status
 abbrev pub Ends : Program → (bound : ℕ) → List Choice → Config → Type 0
 Ends prog bound choices c = (index : ℕ) → (status : Status) × Comes prog bound index c choices status
-
-pub either_way : (P : Config → Type 0) (b : Bool) (c d : Config) → P c → P d → P (if b then c else d)
-either_way P true c d p q = p
-either_way P false c d p q = q
 
 pub is_going : (s : Status) → (s ≡ Going) ⊎ (s ≡ Going → ⊥)
 is_going Going = inl refl

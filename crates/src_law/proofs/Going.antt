@@ -19,6 +19,8 @@ use Rattle.src_prog.specs.declared.block.Next.TheVariants.{Goto, Return}
 use Rattle.src_prog.specs.declared.block.SrcBlock.{SrcBlock}
 use Rattle.src_prog.specs.declared.proc.SrcProc.{SrcProc}
 use Rattle.src_run.proofs.Environments.{and-first, and-second}
+use Rattle.src_run.proofs.Programs.{next_fits_in}
+use Rattle.src_run.proofs.Runs.{either_way}
 use Rattle.src_run.specs.declared.machine.Choice.{Choice}
 use Rattle.src_run.specs.declared.machine.Status.{Status}
 use Rattle.src_run.specs.declared.machine.Status.TheVariants.{Going, Failed, Blocked, Cut}
@@ -26,8 +28,8 @@ use Rattle.src_run.specs.Machine.{Config, Frame, Want, ATarget, with_status, env
 use Rattle.src_law.proofs.Nested.{Edge, IsLoop}
 use Rattle.src_law.proofs.Laps.{LapsFit, Lands}
 use Rattle.src_law.proofs.Rounds.{rounds_left, forward, backward}
-use Rattle.src_law.proofs.Ends.{Ends, either_way, is_going, ends_over, ends_tick, ends_asking, ends_choice}
-use Rattle.src_law.proofs.Fitting.{Fits, FramesFit, WantFits, TargetsFit, first_fits, locals_fit, variables_fit, edge_to, jump_lands, loops_fit_in, next_fits_in, taken_fits, begin_fits}
+use Rattle.src_law.proofs.Ends.{Ends, is_going, ends_over, ends_tick, ends_asking, ends_choice}
+use Rattle.src_law.proofs.Fitting.{Fits, FramesFit, WantFits, TargetsFit, first_fits, locals_fit, variables_fit, edge_to, jump_lands, loops_fit_in, taken_fits, begin_fits}
 use Rattle.src_law.proofs.Opening.{opened_is, room, room_same, room_taken}
 
 module _ (prog : Program) (h : is_program prog ≡ true) (bound : ℕ) (choices : List Choice)

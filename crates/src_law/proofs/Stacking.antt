@@ -15,6 +15,7 @@ use Rattle.src_prog.specs.declared.block.Next.TheVariants.{Goto, Return}
 use Rattle.src_prog.specs.declared.block.SrcBlock.{SrcBlock}
 use Rattle.src_prog.specs.declared.proc.SrcLoop.{SrcLoop}
 use Rattle.src_prog.specs.declared.proc.SrcProc.{SrcProc}
+use Rattle.src_run.proofs.Runs.{either_way}
 use Rattle.src_run.specs.declared.machine.Choice.{Choice}
 use Rattle.src_run.specs.declared.machine.Choice.TheVariants.{Go, Val}
 use Rattle.src_run.specs.declared.machine.Status.{Status}
@@ -23,7 +24,6 @@ use Rattle.src_run.specs.Machine.{Config, Frame, Lap, Want, Way, Again, Enter, S
 use Rattle.src_law.specs.OpenFrames.{frames_allowed, OpenFramesAreBounded}
 use Rattle.src_law.specs.OpenLoops.{config_of, turned}
 use Rattle.src_law.proofs.Counting.{turned_stands}
-use Rattle.src_law.proofs.Ends.{either_way}
 use Rattle.src_law.proofs.Opening.{opened, opened_is, opened_more}
 
 module _ (prog : Program) (entry bound : ℕ) where

@@ -1,5 +1,5 @@
 -- Laws of runs.
-use Rattle.std.proofs.Common.{◌≡◌, ℕ, zero, suc, ◌+◌, Bool, true, false, List, [], ◌∷◌, ◌++◌, length, None, Some, arith, sym, ◌∙◌, ap, refl, append_assoc, subst, inl, inr}
+use Rattle.std.proofs.Common.{◌≡◌, ℕ, zero, suc, ◌+◌, Bool, true, false, if◌then◌else◌, List, [], ◌∷◌, ◌++◌, length, None, Some, arith, sym, ◌∙◌, ap, refl, append_assoc, subst, inl, inr}
 use Rattle.std.proofs.lemmas.List.{append-nil, map-append}
 use Rattle.hy_val.specs.Values.{has_sort}
 use Rattle.hy_val.specs.declared.atom.AtomKind.TheVariants.{Bool as BoolAtom, Bv as BvAtom}
@@ -16,6 +16,11 @@ use Rattle.src_run.specs.Search.{NoneFrom, FirstFrom, FirstFailing, Precedes, bo
 use Rattle.src_run.specs.declared.searching.Failing.{Failing}
 use Rattle.src_run.specs.Machine.{Config, Want, Turn, Stands, GoesOn, tick, take_choice, bad, turn, going, over, after, within, AConst, AGlobal, ALocal, AVariable, ATarget, Comes, HasStatus, Fails, NoneFails, begin}
 use Rattle.src_run.proofs.Environments.{is-bool}
+
+-- what holds on both ways
+pub either_way : (P : Config → Type 0) (b : Bool) (c d : Config) → P c → P d → P (if b then c else d)
+either_way P true c d p q = p
+either_way P false c d p q = q
 
 -- more turns change nothing
 abbrev MoreTurns : ℕ → Program → ℕ → Type 0
