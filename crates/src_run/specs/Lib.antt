@@ -2,3 +2,4 @@ pub mod Machine
 pub mod Plain
 pub mod Running
 pub mod Search
+pub mod Sorted
