@@ -76,7 +76,11 @@ found s ss vs n bools values same fits = at (slice_get ss n) refl fits
         let s_is : s ≡ bool_sort = same_as_bool s (subst (λ (u : Sort). same_sort u s ≡ true) bool h) in
         ap (λ o. is_there o s) value.1 ∙ subst (λ (u : Sort). has_sort value.0 u ≡ true) (sym s_is) has
 
-reads_variable : (scope : Scope) (env : Env) → Bools scope env → (x : Var) (s : Sort) → is_sort_of (sort_of_variable scope x) s ≡ true → is_there (variable env x) s ≡ true
+-- each variable of the scope is in the environment, with its sort
+abbrev pub AreThere : Scope → Env → Type 0
+AreThere scope env = (x : Var) (s : Sort) → is_sort_of (sort_of_variable scope x) s ≡ true → is_there (variable env x) s ≡ true
+
+reads_variable : (scope : Scope) (env : Env) → Bools scope env → AreThere scope env
 reads_variable scope env b (Const n) s h = none scope.consts b.consts h
   where
     none : (cs : List Sort) → cs ≡ [] → is_sort_of (slice_get cs n) s ≡ true → is_there (slice_get env.consts n) s ≡ true
@@ -85,37 +89,37 @@ reads_variable scope env b (Const n) s h = none scope.consts b.consts h
 reads_variable scope env b (Global n) s h = found s scope.globals env.globals n b.global_sorts b.globals b.globals_count h
 reads_variable scope env b (Local n) s h = found s scope.locals env.locals n b.local_sorts b.locals b.locals_count h
 
-reads_node : (scope : Scope) (env : Env) → Bools scope env → (node : ExprNode) → node_fits scope node ≡ true → node_reads env node ≡ true
-reads_node scope env b (Lit a) h = refl
-reads_node scope env b (Read x sort) h = reads_variable scope env b x sort h
-reads_node scope env b (Unary op child) h = refl
-reads_node scope env b (Binary op left right) h = refl
-reads_node scope env b (If test one other) h = refl
-reads_node scope env b (Select map index) h = refl
-reads_node scope env b (Store map index value) h = refl
+reads_node : (scope : Scope) (env : Env) → AreThere scope env → (node : ExprNode) → node_fits scope node ≡ true → node_reads env node ≡ true
+reads_node scope env there (Lit a) h = refl
+reads_node scope env there (Read x sort) h = there x sort h
+reads_node scope env there (Unary op child) h = refl
+reads_node scope env there (Binary op left right) h = refl
+reads_node scope env there (If test one other) h = refl
+reads_node scope env there (Select map index) h = refl
+reads_node scope env there (Store map index value) h = refl
 
-reads_all : (scope : Scope) (env : Env) → Bools scope env → (nodes : List ExprNode) → list_all (node_fits scope) nodes ≡ true → reads env nodes ≡ true
-reads_all scope env b [] h = refl
-reads_all scope env b (node ∷ nodes) h =
-    and-both (node_reads env node) (reads env nodes) (reads_node scope env b node (and-first (node_fits scope node) _ h)) (reads_all scope env b nodes (and-second (node_fits scope node) _ h))
+reads_all : (scope : Scope) (env : Env) → AreThere scope env → (nodes : List ExprNode) → list_all (node_fits scope) nodes ≡ true → reads env nodes ≡ true
+reads_all scope env there [] h = refl
+reads_all scope env there (node ∷ nodes) h =
+    and-both (node_reads env node) (reads env nodes) (reads_node scope env there node (and-first (node_fits scope node) _ h)) (reads_all scope env there nodes (and-second (node_fits scope node) _ h))
 
-reads_expr : (scope : Scope) (env : Env) → Bools scope env → (sort : Option Sort) (nodes : List ExprNode) → expr_fits scope sort nodes ≡ true → reads env nodes ≡ true
-reads_expr scope env b sort nodes h = reads_all scope env b nodes (and-first (list_all (node_fits scope) nodes) _ h)
+pub reads_expr : (scope : Scope) (env : Env) → AreThere scope env → (sort : Option Sort) (nodes : List ExprNode) → expr_fits scope sort nodes ≡ true → reads env nodes ≡ true
+reads_expr scope env there sort nodes h = reads_all scope env there nodes (and-first (list_all (node_fits scope) nodes) _ h)
 
 pub assume_reads : (procs : List SrcProc) (expr : List ExprNode) (cmds : List Cmd) (env : Env) → CanRun procs (Assume expr ∷ cmds) env → IsTrue (reads env expr)
-assume_reads procs expr cmds env c = reads_expr c.scope env c.bools (Some bool_sort) expr (and-first (is_condition c.scope expr) _ c.fit)
+assume_reads procs expr cmds env c = reads_expr c.scope env (reads_variable c.scope env c.bools) (Some bool_sort) expr (and-first (is_condition c.scope expr) _ c.fit)
 
 pub assert_reads : (procs : List SrcProc) (number : ℕ) (expr : List ExprNode) (cmds : List Cmd) (env : Env) → CanRun procs (Assert number expr ∷ cmds) env → IsTrue (reads env expr)
 assert_reads procs number expr cmds env c =
-    reads_expr c.scope env c.bools (Some bool_sort) expr (and-second (nat_le 1 number) (is_condition c.scope expr) (and-first (nat_le 1 number && is_condition c.scope expr) _ c.fit))
+    reads_expr c.scope env (reads_variable c.scope env c.bools) (Some bool_sort) expr (and-second (nat_le 1 number) (is_condition c.scope expr) (and-first (nat_le 1 number && is_condition c.scope expr) _ c.fit))
 
-pairs_read : (scope : Scope) (env : Env) → Bools scope env → (pairs : List (Var × List ExprNode)) → list_all (pair_fits scope) pairs ≡ true → list_all (λ (p : Var × List ExprNode). reads env p.1) pairs ≡ true
-pairs_read scope env b [] h = refl
-pairs_read scope env b (p ∷ ps) h =
-    and-both (reads env p.1) (list_all (λ (q : Var × List ExprNode). reads env q.1) ps) (reads_expr scope env b (sort_of_target scope p.0) p.1 (and-first (pair_fits scope p) _ h)) (pairs_read scope env b ps (and-second (pair_fits scope p) _ h))
+pub pairs_read : (scope : Scope) (env : Env) → AreThere scope env → (pairs : List (Var × List ExprNode)) → list_all (pair_fits scope) pairs ≡ true → list_all (λ (p : Var × List ExprNode). reads env p.1) pairs ≡ true
+pairs_read scope env there [] h = refl
+pairs_read scope env there (p ∷ ps) h =
+    and-both (reads env p.1) (list_all (λ (q : Var × List ExprNode). reads env q.1) ps) (reads_expr scope env there (sort_of_target scope p.0) p.1 (and-first (pair_fits scope p) _ h)) (pairs_read scope env there ps (and-second (pair_fits scope p) _ h))
 
 pub assign_reads : (procs : List SrcProc) (pairs : List (Var × List ExprNode)) (cmds : List Cmd) (env : Env) → CanRun procs (Assign pairs ∷ cmds) env → IsTrue (list_all (λ (p : Var × List ExprNode). reads env p.1) pairs)
-assign_reads procs pairs cmds env c = pairs_read c.scope env c.bools pairs (and-first (list_all (pair_fits c.scope) pairs) _ c.fit)
+assign_reads procs pairs cmds env c = pairs_read c.scope env (reads_variable c.scope env c.bools) pairs (and-first (list_all (pair_fits c.scope) pairs) _ c.fit)
 
 -- ---- writing
 
@@ -187,7 +191,7 @@ value_bool law scope env b x nodes h = at (sort_of_target scope x) (sort_of_expr
     at (Some t) (Some s) e f k =
         let t_is : t ≡ bool_sort = target_bool scope env b x t e in
         let s_is : s ≡ bool_sort = same_as_bool s (subst (λ (u : Sort). same_sort u s ≡ true) t_is k) in
-        law env nodes (length nodes - 1) bool_sort (reads_expr scope env b (sort_of_target scope x) nodes h) (f ∙ ap Some s_is)
+        law env nodes (length nodes - 1) bool_sort (reads_expr scope env (reads_variable scope env b) (sort_of_target scope x) nodes h) (f ∙ ap Some s_is)
 
 pub values_bool : (law : EachNodeHasItsSort) (scope : Scope) (env : Env) → Bools scope env → (pairs : List (Var × List ExprNode)) → list_all (pair_fits scope) pairs ≡ true → are_bool_values (map (λ (p : Var × List ExprNode). eval env p.1) pairs) ≡ true
 values_bool law scope env b [] h = refl

@@ -35,7 +35,7 @@ block_at procs scope loops count number (b ∷ bs) (suc n) block h e =
     let there : number + suc n ≡ number + 1 + n = omega arith in
     rw there (block_at procs scope loops count (number + 1) bs n block (and-second (block_fits procs scope loops count number b) _ h) e)
 
-block_fits_in : (prog : Program) (p n : ℕ) (proc : SrcProc) (block : SrcBlock) → is_program prog ≡ true → slice_get prog.procs p ≡ Some proc → slice_get proc.blocks n ≡ Some block
+pub block_fits_in : (prog : Program) (p n : ℕ) (proc : SrcProc) (block : SrcBlock) → is_program prog ≡ true → slice_get prog.procs p ≡ Some proc → slice_get proc.blocks n ≡ Some block
     → block_fits prog.procs (scope_of prog proc) proc.loops (length proc.blocks) n block ≡ true
 block_fits_in prog p n proc block h e f =
     let fit = and-second (loops_fit proc) _ (proc_shape prog proc (proc_fits prog p proc h e)) in

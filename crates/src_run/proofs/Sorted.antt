@@ -2,27 +2,27 @@
 use Rattle.std.proofs.Common.{◌≡◌, ℕ, zero, suc, ◌+◌, ◌-◌, ◌<◌, nat_lt, nat_le, true, List, [], ◌∷◌, ◌++◌, length, map, slice_get, Option, None, Some, arith, ◌∙◌, ap, refl, subst}
 use Rattle.std.specs.List.{list_all}
 use Rattle.std.proofs.lemmas.Bool.Decides.{nat_tests}
+use Rattle.std.proofs.lemmas.List.{length-map}
 use Rattle.hy_val.proofs.Lawful.{has_its_sort}
 use Rattle.hy_val.proofs.ResultSorts.{same_scalar_is}
-use Rattle.hy_val.specs.Exprs.{eval, reads, node_reads, is_there, variable}
+use Rattle.hy_val.specs.Exprs.{eval, reads, is_there, variable}
 use Rattle.hy_val.specs.NodeSorts.{same_sort}
 use Rattle.hy_val.specs.Sorts.{same_scalar}
 use Rattle.hy_val.specs.Values.{has_sort}
 use Rattle.hy_val.specs.declared.expr.Env.{Env}
 use Rattle.hy_val.specs.declared.expr.ExprNode.{ExprNode}
-use Rattle.hy_val.specs.declared.expr.ExprNode.TheVariants.{Lit, Var as Read, Unary, Binary, If, Select, Store}
 use Rattle.hy_val.specs.declared.expr.Var.{Var}
 use Rattle.hy_val.specs.declared.expr.Var.TheVariants.{Const, Global, Local}
 use Rattle.hy_val.specs.declared.sort.Sort.{Sort}
 use Rattle.hy_val.specs.declared.sort.SortKind.TheVariants.{Scalar as ScalarSort, Map as MapSort}
 use Rattle.hy_val.specs.declared.value.Value.{Value}
 use Rattle.src_prog.specs.Program.{Program}
-use Rattle.src_prog.specs.Scope.{Scope, sorts_of, locals_of, sort_of_variable, sort_of_target, is_sort_of, are_same, node_fits, sort_of_expr, expr_fits, is_condition, args_fit, pair_fits, call_fits, cmd_fits}
+use Rattle.src_prog.specs.Scope.{Scope, sorts_of, locals_of, sort_of_variable, is_sort_of, are_same, node_fits, sort_of_expr, expr_fits, is_condition, args_fit, call_fits, cmd_fits}
 use Rattle.src_prog.specs.Shape.{is_program, scope_of, constant_scope, ascend_from}
 use Rattle.src_prog.specs.declared.block.Cmd.TheVariants.{Assign, Assume, Assert, Call}
 use Rattle.src_prog.specs.declared.proc.Named.{Named}
 use Rattle.src_prog.specs.declared.proc.SrcProc.{SrcProc}
-use Rattle.src_run.proofs.Environments.{and-first, and-second, and-both}
+use Rattle.src_run.proofs.Environments.{and-first, and-second, and-both, reads_expr, pairs_read}
 use Rattle.src_run.proofs.Programs.{axioms_fit, uniques_ascend}
 use Rattle.src_run.specs.Machine.{Config, Frame, Want, AConst, AGlobal, ALocal, env_of}
 use Rattle.src_run.specs.Sorted.{HaveSorts, HasVariables, AreFrames, AreSorted, AreComplete, AsksForNone, AsksForNoConst}
@@ -66,22 +66,9 @@ module _ (scope : Scope) (env : Env) (has : HasVariables scope env) where
   variable_there (Global n) s h = have_at env.globals scope.globals n s has.globals (is_sort_of_is (slice_get scope.globals n) s h)
   variable_there (Local n) s h = have_at env.locals scope.locals n s has.locals (is_sort_of_is (slice_get scope.locals n) s h)
 
-  node_there : (node : ExprNode) → node_fits scope node ≡ true → node_reads env node ≡ true
-  node_there (Lit a) h = refl
-  node_there (Read x sort) h = variable_there x sort h
-  node_there (Unary op child) h = refl
-  node_there (Binary op left right) h = refl
-  node_there (If test one other) h = refl
-  node_there (Select map index) h = refl
-  node_there (Store map index value) h = refl
-
-  nodes_there : (nodes : List ExprNode) → list_all (node_fits scope) nodes ≡ true → reads env nodes ≡ true
-  nodes_there [] h = refl
-  nodes_there (node ∷ nodes) h = and-both (node_reads env node) (reads env nodes) (node_there node (and-first (node_fits scope node) _ h)) (nodes_there nodes (and-second (node_fits scope node) _ h))
-
   -- an expression that fits can be evaluated
   pub expr_reads : (sort : Option Sort) (nodes : List ExprNode) → expr_fits scope sort nodes ≡ true → reads env nodes ≡ true
-  expr_reads sort nodes h = nodes_there nodes (and-first (list_all (node_fits scope) nodes) _ h)
+  expr_reads sort nodes h = reads_expr scope env variable_there sort nodes h
 
   -- its value has the sort that it should have, which is there
   pub expr_sorted : (sort : Option Sort) (nodes : List ExprNode) → expr_fits scope sort nodes ≡ true → (s : Sort) × (sort ≡ Some s) × (has_sort (eval env nodes) s ≡ true)
@@ -103,12 +90,8 @@ module _ (scope : Scope) (env : Env) (has : HasVariables scope env) where
   pub assert_reads : (procs : List SrcProc) (number : ℕ) (expr : List ExprNode) → cmd_fits procs scope (Assert number expr) ≡ true → reads env expr ≡ true
   assert_reads procs number expr h = expr_reads _ expr (and-second (nat_le 1 number) (is_condition scope expr) h)
 
-  pairs_there : (pairs : List (Var × List ExprNode)) → list_all (pair_fits scope) pairs ≡ true → list_all (λ (p : Var × List ExprNode). reads env p.1) pairs ≡ true
-  pairs_there [] h = refl
-  pairs_there (p ∷ ps) h = and-both (reads env p.1) (list_all (λ (q : Var × List ExprNode). reads env q.1) ps) (expr_reads (sort_of_target scope p.0) p.1 (and-first (pair_fits scope p) _ h)) (pairs_there ps (and-second (pair_fits scope p) _ h))
-
   pub assign_reads : (procs : List SrcProc) (pairs : List (Var × List ExprNode)) → cmd_fits procs scope (Assign pairs) ≡ true → list_all (λ (p : Var × List ExprNode). reads env p.1) pairs ≡ true
-  assign_reads procs pairs h = pairs_there pairs h
+  assign_reads procs pairs h = pairs_read scope env variable_there pairs h
 
   args_there : (names : List Named) (args : List (List ExprNode)) → args_fit scope names args ≡ true → list_all (reads env) args ≡ true
   args_there [] [] h = refl
@@ -150,12 +133,8 @@ pub uniques_there : (prog : Program) (consts : List Value) → is_program prog �
 uniques_there prog consts h have k n e =
     let less = ascend_below 0 (length prog.consts) prog.uniques k n (uniques_ascend prog h) e in
     let same = have_length consts (sorts_of prog.consts) have in
-    let names = length_sorts prog.consts in
+    let names = length-map prog.consts (λ (n : Named). n.sort) in
     omega arith
-  where
-    length_sorts : (names : List Named) → length (sorts_of names) ≡ length names
-    length_sorts [] = refl
-    length_sorts (n ∷ ns) = ap suc (length_sorts ns)
 
 -- ---- configurations
 

@@ -1,5 +1,5 @@
 -- The run of a plain entry from its start.
-use Rattle.std.proofs.Common.{◌≡◌, ℕ, zero, suc, ◌+◌, ◌<◌, ◌≤◌, nat_le, nat_lt, Bool, true, false, ◌&&◌, if◌then◌else◌, List, [], ◌∷◌, ◌++◌, length, map, take, drop, slice_get, Option, None, Some, arith, sym, ◌∙◌, ap, refl, subst, length-append, get_or}
+use Rattle.std.proofs.Common.{◌≡◌, ℕ, ◌+◌, ◌<◌, ◌≤◌, nat_le, nat_lt, Bool, true, false, if◌then◌else◌, List, [], ◌∷◌, ◌++◌, length, map, take, drop, slice_get, Option, None, Some, arith, sym, ◌∙◌, ap, refl, subst, length-append, get_or}
 use Rattle.std.proofs.lemmas.Bool.Decides.{nat_tests}
 use Rattle.std.proofs.lemmas.List.{append-nil, length-map, length-take-le}
 use Rattle.std.proofs.lemmas.List.Folds.{list_all-append}
@@ -13,8 +13,7 @@ use Rattle.hy_val.specs.declared.sort.Sort.{Sort}
 use Rattle.hy_val.specs.declared.sort.SortKind.TheVariants.{Scalar as ScalarSort, Map as MapSort}
 use Rattle.src_prog.specs.Program.{Program}
 use Rattle.src_prog.specs.Scope.{cmd_fits, sorts_of, locals_of}
-use Rattle.src_prog.specs.Shape.{is_program, is_procedure, scope_of, ascend_from, blocks_fit, block_fits, names_fit, are_numbered, loops_fit, constant_scope}
-use Rattle.src_prog.specs.Scope.{is_condition}
+use Rattle.src_prog.specs.Shape.{is_program, scope_of, ascend_from}
 use Rattle.src_prog.specs.declared.block.Cmd.{Cmd}
 use Rattle.src_prog.specs.declared.block.Cmd.TheVariants.{Assign, Havoc, Assume, Assert, Call}
 use Rattle.src_prog.specs.declared.block.Next.{Next}
@@ -29,6 +28,7 @@ use Rattle.src_run.specs.Running.{Leads, StandsBehind, RunsTo, CanStart, at_cmd,
 use Rattle.src_run.specs.Search.{bool_choice, bool_choices}
 use Rattle.src_run.proofs.Environments.{and-first, and-second, bools_are}
 use Rattle.src_run.proofs.Plainly.{Entry, asking, filled_globals, fill_globals, fill_locals, short_globals, short_locals, cmds_run, drop_length, drop_drop}
+use Rattle.src_run.proofs.Programs.{block_fits_in, uniques_ascend}
 use Rattle.src_run.proofs.Runs.{stands_behind}
 
 -- ---- what a plain program is
@@ -86,11 +86,6 @@ only_block prog proc [] e h = cc
 only_block prog proc (b ∷ []) e h = record { block = b; is = e; plain = h }
 only_block prog proc (b ∷ c ∷ bs) e h = cc
 
-proc_fits : (prog : Program) (procs : List SrcProc) (n : ℕ) (proc : SrcProc) → list_all (is_procedure prog) procs ≡ true → slice_get procs n ≡ Some proc → is_procedure prog proc ≡ true
-proc_fits prog [] n proc h e = cc
-proc_fits prog (p ∷ ps) zero proc h e = let same : p ≡ proc = cc in subst (λ q. is_procedure prog q ≡ true) same (and-first (is_procedure prog p) _ h)
-proc_fits prog (p ∷ ps) (suc n) proc h e = proc_fits prog ps n proc (and-second (is_procedure prog p) _ h) e
-
 facts : (prog : Program) (entry : ℕ) (proc : SrcProc) → is_program prog ≡ true → is_plain prog entry ≡ true → slice_get prog.procs entry ≡ Some proc → Facts prog entry proc
 facts prog entry proc h p e =
     let consts = no_items prog.consts (and-first (is_empty prog.consts) _ p) in
@@ -103,18 +98,10 @@ facts prog entry proc h p e =
     let only = only_block prog proc proc.blocks refl (and-second (are_bools proc.locals) _ p6) in
     let b1 = and-second (returns only.block.next) _ only.plain in
     let few : nat_le (asked prog proc only.block.cmds) 16 ≡ true = and-second (is_without_call only.block.cmds) _ b1 in
-    let h1 = and-first (names_fit prog.consts && (names_fit prog.globals && ascend_from 0 (length prog.consts) prog.uniques)) _ h in
-    let h2 = and-second (names_fit prog.globals) _ (and-second (names_fit prog.consts) _ h1) in
-    let h3 = and-second (names_fit prog.consts && (names_fit prog.globals && ascend_from 0 (length prog.consts) prog.uniques)) _ h in
-    let h4 = and-second (list_all (is_condition (constant_scope prog)) prog.axioms) _ h3 in
-    let h5 = proc_fits prog prog.procs entry proc (and-second (are_numbered (length prog.procs)) _ h4) e in
-    let h6 = and-second (names_fit proc.ins && (names_fit proc.outs && names_fit proc.locals)) _ h5 in
-    let h7 = and-second (are_numbered (length (locals_of proc)) && (nat_lt 0 (length proc.blocks) && are_numbered (length proc.blocks))) _ h6 in
-    let h8 : blocks_fit prog.procs (scope_of prog proc) proc.loops (length proc.blocks) 0 proc.blocks ≡ true = and-second (loops_fit proc) _ h7 in
-    let h9 : blocks_fit prog.procs (scope_of prog proc) proc.loops (length proc.blocks) 0 (only.block ∷ []) ≡ true = subst (λ bs. blocks_fit prog.procs (scope_of prog proc) proc.loops (length proc.blocks) 0 bs ≡ true) only.is h8 in
+    let only_first = ap (λ (bs : List SrcBlock). slice_get bs 0) only.is in
     record {
       consts = consts;
-      uniques = no_uniques prog.uniques (subst (λ (n : ℕ). ascend_from 0 n prog.uniques ≡ true) (ap length consts) h2);
+      uniques = no_uniques prog.uniques (subst (λ (n : ℕ). ascend_from 0 n prog.uniques ≡ true) (ap length consts) (uniques_ascend prog h));
       axioms = no_items prog.axioms (and-first (is_empty prog.axioms) _ p1);
       globals = and-first (are_bools prog.globals) _ p2;
       ins = no_items proc.ins (and-first (is_empty proc.ins) _ p4);
@@ -125,7 +112,7 @@ facts prog entry proc h p e =
       return = returns_is only.block.next (and-first (returns only.block.next) _ only.plain);
       plain = and-first (is_without_call only.block.cmds) _ b1;
       few = grind (arith, nat_tests);
-      fit = and-first (list_all (cmd_fits prog.procs (scope_of prog proc)) only.block.cmds) _ (and-first (block_fits prog.procs (scope_of prog proc) proc.loops (length proc.blocks) 0 only.block) _ h9);
+      fit = and-first (list_all (cmd_fits prog.procs (scope_of prog proc)) only.block.cmds) _ (block_fits_in prog entry 0 proc only.block h e only_first);
     }
 
 -- ---- variables

@@ -1,4 +1,5 @@
--- What a run of a program holds: each value has the sort of its variable, and what is asked for is what is missing. No public clause cites it.
+-- What a run of a program holds: each value has the sort of its variable, and what is asked for is what is missing. Of this public clauses cite
+-- `AsksForNone` alone.
 use Rattle.std.specs.Prelude.{◌≡◌, List, [], ◌∷◌, ◌++◌, map, slice_get, Some, IsTrue}
 use Rattle.hy_val.specs.Values.{has_sort}
 use Rattle.hy_val.specs.declared.expr.Env.{Env}
@@ -81,7 +82,7 @@ pub record AreComplete (prog : Program) (c : Config) : Type 0 where
   pub globals : HaveSorts c.globals (sorts_of prog.globals) []
   pub frames : AreFrames prog c.frames []
 
--- no value is asked for that is missing
+-- the first value of no variable is asked for
 abbrev pub AsksForNone : List Want → Type 0
 AsksForNone [] = Unit {0}
 AsksForNone (AConst sort ∷ ws) = ⊥
