@@ -12,3 +12,4 @@ pub mod Falling
 pub mod Counting
 pub mod Causing
 pub mod Stacking
+pub mod Holding

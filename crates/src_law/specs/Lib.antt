@@ -2,3 +2,4 @@ pub mod Statuses
 pub mod OpenLoops
 pub mod Causes
 pub mod OpenFrames
+pub mod HeldValues

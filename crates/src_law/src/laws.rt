@@ -1,5 +1,6 @@
 //! The laws, each the contract of a function that does nothing.
 ghost use Rattle.src_law.specs.Causes.{StatusesHaveCauses};
+ghost use Rattle.src_law.specs.HeldValues.{ValuesHaveTheirSorts};
 ghost use Rattle.src_law.specs.OpenFrames.{OpenFramesAreBounded};
 ghost use Rattle.src_law.specs.OpenLoops.{OpenLoopsAreCountedOnce};
 ghost use Rattle.src_law.specs.Statuses.{StatusesAreUnique, EachListHasAStatus, BadChoicesAreFirst, EachAskCanBeMet};
@@ -47,4 +48,12 @@ pub fn statuses_have_causes()
 /// entry where the bound is 0.
 pub fn open_frames_are_bounded()
     ensures { OpenFramesAreBounded }
+{}
+
+/// Wherever a run of a program is, each constant and each global that it holds, and each local of each
+/// open frame, has the sort of its declaration. None is missing where the run does not ask for the
+/// first value of one: where it asks for nothing, for a target, or for a new value of a variable, if
+/// the entry is there.
+pub fn values_have_their_sorts()
+    ensures { ValuesHaveTheirSorts }
 {}
