@@ -12,13 +12,13 @@ use Rattle.src_prog.specs.Shape.{is_program}
 use Rattle.src_prog.specs.declared.proc.Named.{Named}
 use Rattle.src_prog.specs.declared.proc.SrcProc.{SrcProc}
 use Rattle.src_run.proofs.Sorted.{have_length, complete}
-use Rattle.src_run.proofs.Sorting.{IsSortedTurn, begin_sorted, turn_sorted}
+use Rattle.src_run.proofs.Sorting.{const_next, global_next, local_next, variable_next, IsSortedTurn, begin_sorted, turn_sorted}
 use Rattle.src_run.specs.declared.machine.Choice.{Choice}
 use Rattle.src_run.specs.declared.machine.Status.{Status}
 use Rattle.src_run.specs.declared.machine.Status.TheVariants.{Going, Ended, Failed, Blocked, Cut, BadChoice}
-use Rattle.src_run.specs.Machine.{Config, Frame, Turn, Stands, GoesOn, begin, begin_in, turn, over, HasStatus}
+use Rattle.src_run.specs.Machine.{Config, Frame, Want, AConst, AGlobal, ALocal, AVariable, ATarget, Turn, Stands, GoesOn, begin, begin_in, turn, over, HasStatus}
 use Rattle.src_run.specs.Sorted.{HaveSorts, AreCallers, AreFrames, AreSorted, AreComplete}
-use Rattle.src_law.specs.HeldValues.{HaveTheirSorts, HoldsItsLocals, HoldsItsValues, HoldsAllLocals, HoldsAllValues, ValuesHaveTheirSorts}
+use Rattle.src_law.specs.HeldValues.{AsksNext, HaveTheirSorts, HoldsItsLocals, HoldsItsValues, HoldsAllLocals, HoldsAllValues, ValuesHaveTheirSorts}
 use Rattle.src_law.specs.OpenLoops.{config_of, turned}
 use Rattle.src_law.proofs.Counting.{turned_stands}
 
@@ -59,34 +59,53 @@ module _ (prog : Program) where
     frames = frames_whole c.frames h.frames;
   }
 
+  sorted_asks : (c : Config) → AreSorted prog c → (ws : List Want) → c.wants ≡ ws → AsksNext prog c ws
+  sorted_asks c h [] asks = tt
+  sorted_asks c h (AConst s ∷ ws) asks = const_next prog c h ws s asks
+  sorted_asks c h (AGlobal s ∷ ws) asks = global_next prog c h ws s asks
+  sorted_asks c h (ALocal s ∷ ws) asks =
+      let (f, rest, proc, are, is, next) = local_next prog c h ws s asks in
+      (f, proc, record { callers = rest; are = are; is_proc = is }, next)
+  sorted_asks c h (AVariable x o ∷ ws) asks =
+      let (f, rest, proc, are, is, sort) = variable_next prog c h ws x o asks in
+      (f, proc, record { callers = rest; are = are; is_proc = is }, sort)
+  sorted_asks c h (ATarget ts ∷ ws) asks = tt
+
   sorted_holds : (entry : ℕ) (c : Config) → AreSorted prog c → HoldsItsValues prog entry c
   sorted_holds entry c h = record {
     consts = have_each c.consts (sorts_of prog.consts) h.missing_consts h.consts;
     globals = have_each c.globals (sorts_of prog.globals) h.missing_globals h.globals;
     frames = frames_hold c.frames h.missing_locals h.frames;
+    asks = sorted_asks c h c.wants refl;
     complete = λ there asks. complete_whole c (complete prog c h asks);
   }
 
 -- ---- an entry that is not there
 
--- the run is over, and holds nothing
+-- the run is over, holds nothing and asks for nothing
 record HoldsNothing (c : Config) : Type 0 where
   consts : c.consts ≡ []
   globals : c.globals ≡ []
   frames : c.frames ≡ []
+  wants : c.wants ≡ []
   is_over : c.status ≡ Going → ⊥
 
 over_nothing : (index : ℕ) (c : Config) (choices : List Choice) → HoldsNothing c → HoldsNothing (config_of (over index c choices))
 over_nothing index c [] h = h
-over_nothing index c (x ∷ xs) h = record { consts = h.consts; globals = h.globals; frames = h.frames; is_over = λ e. cc }
+over_nothing index c (x ∷ xs) h = record { consts = h.consts; globals = h.globals; frames = h.frames; wants = h.wants; is_over = λ e. cc }
 
 nothing_holds : (prog : Program) (entry : ℕ) (c : Config) → slice_get prog.procs entry ≡ None → HoldsNothing c → HoldsItsValues prog entry c
 nothing_holds prog entry c e h = record {
   consts = rw h.consts (λ n v k. cc);
   globals = rw h.globals (λ n v k. cc);
   frames = rw h.frames (All-nil (HoldsItsLocals prog));
+  asks = asks_none c.wants h.wants;
   complete = λ there asks. let no = rw e at there in cc;
 }
+  where
+    asks_none : (ws : List Want) → ws ≡ [] → AsksNext prog c ws
+    asks_none [] k = tt
+    asks_none (w ∷ ws) k = cc
 
 -- ---- the whole run
 
@@ -123,7 +142,7 @@ module _ (prog : Program) (h : is_program prog ≡ true) (bound : ℕ) where
   values_anywhere entry turns choices = at (slice_get prog.procs entry) refl
     where
       none : (o : Option SrcProc) → o ≡ None → HoldsNothing (begin_in prog entry o)
-      none None e = record { consts = refl; globals = refl; frames = refl; is_over = λ k. cc }
+      none None e = record { consts = refl; globals = refl; frames = refl; wants = refl; is_over = λ k. cc }
       none (Some proc) e = cc
 
       at : (o : Option SrcProc) → slice_get prog.procs entry ≡ o → HoldsItsValues prog entry (place entry turns choices)

@@ -1,16 +1,16 @@
 -- The values that a run of a program holds, wherever it is: before and behind each step and each choice.
-use Rattle.std.specs.Prelude.{◌≡◌, ℕ, List, length, slice_get, Some, IsSome, IsTrue}
+use Rattle.std.specs.Prelude.{◌≡◌, ℕ, List, [], ◌∷◌, length, slice_get, Some, IsSome, IsTrue}
 use Rattle.std.specs.List.{All}
 use Rattle.hy_val.specs.Values.{has_sort}
 use Rattle.hy_val.specs.declared.sort.Sort.{Sort}
 use Rattle.hy_val.specs.declared.value.Value.{Value}
 use Rattle.src_prog.specs.Program.{Program}
-use Rattle.src_prog.specs.Scope.{sorts_of, locals_of}
-use Rattle.src_prog.specs.Shape.{is_program}
+use Rattle.src_prog.specs.Scope.{sorts_of, locals_of, sort_of_target}
+use Rattle.src_prog.specs.Shape.{is_program, scope_of}
 use Rattle.src_prog.specs.declared.proc.SrcProc.{SrcProc}
 use Rattle.src_run.specs.declared.machine.Choice.{Choice}
 use Rattle.src_run.specs.declared.machine.Status.{Status}
-use Rattle.src_run.specs.Machine.{Config, Frame, GoesOn, begin, HasStatus}
+use Rattle.src_run.specs.Machine.{Config, Frame, Want, AConst, AGlobal, ALocal, AVariable, ATarget, GoesOn, begin, HasStatus}
 use Rattle.src_run.specs.Sorted.{AsksForNone}
 use Rattle.src_law.specs.OpenLoops.{config_of, turned}
 
@@ -36,12 +36,29 @@ pub record HoldsAllValues (prog : Program) (c : Config) : Type 0 where
   pub globals : length c.globals ≡ length prog.globals
   pub frames : All (HoldsAllLocals prog) c.frames
 
--- The constants, the globals and the locals of each open frame have the sorts of their declarations. None is missing where the run asks for the first
--- value of no variable, if the entry is there.
+-- the innermost frame is this one, of this procedure
+pub record IsInnermost (prog : Program) (c : Config) (f : Frame) (proc : SrcProc) : Type 0 where
+  pub callers : List Frame
+  pub are : c.frames ≡ f ∷ callers
+  pub is_proc : slice_get prog.procs f.proc ≡ Some proc
+
+-- What is asked for first has the sort of its declaration: the first constant or global that has no value, the first such local of the innermost frame,
+-- or a variable that is changed there.
+abbrev pub AsksNext : Program → Config → List Want → Type 0
+AsksNext prog c [] = Unit {0}
+AsksNext prog c (AConst sort ∷ wants) = slice_get (sorts_of prog.consts) (length c.consts) ≡ Some sort
+AsksNext prog c (AGlobal sort ∷ wants) = slice_get (sorts_of prog.globals) (length c.globals) ≡ Some sort
+AsksNext prog c (ALocal sort ∷ wants) = (f : Frame) × (proc : SrcProc) × IsInnermost prog c f proc × (slice_get (locals_of proc) (length f.locals) ≡ Some sort)
+AsksNext prog c (AVariable x sort ∷ wants) = (f : Frame) × (proc : SrcProc) × IsInnermost prog c f proc × (sort ≡ sort_of_target (scope_of prog proc) x)
+AsksNext prog c (ATarget targets ∷ wants) = Unit {0}
+
+-- The constants, the globals and the locals of each open frame have the sorts of their declarations, and so has what is asked for. None is missing
+-- where the first value of no variable is asked for, if the entry is there.
 pub record HoldsItsValues (prog : Program) (entry : ℕ) (c : Config) : Type 0 where
   pub consts : HaveTheirSorts c.consts (sorts_of prog.consts)
   pub globals : HaveTheirSorts c.globals (sorts_of prog.globals)
   pub frames : All (HoldsItsLocals prog) c.frames
+  pub asks : AsksNext prog c c.wants
   pub complete : IsSome (slice_get prog.procs entry) → AsksForNone c.wants → HoldsAllValues prog c
 
 -- So it is of a run of a program, after any number of turns and where the run stands.

@@ -51,9 +51,9 @@ pub fn open_frames_are_bounded()
 {}
 
 /// Wherever a run of a program is, each constant and each global that it holds, and each local of each
-/// open frame, has the sort of its declaration. None is missing where the run does not ask for the
-/// first value of one: where it asks for nothing, for a target, or for a new value of a variable, if
-/// the entry is there.
+/// open frame, has the sort of its declaration, and so has the value that is asked for next. None is
+/// missing where the run does not ask for the first value of one: where it asks for nothing, for a
+/// target, or for a new value of a variable, if the entry is there.
 pub fn values_have_their_sorts()
     ensures { ValuesHaveTheirSorts }
 {}

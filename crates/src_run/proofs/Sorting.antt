@@ -41,6 +41,12 @@ have_push [] sorts s missing v h k = rw h (k, refl)
 have_push (w ∷ vs) [] s missing v h k = absurd h
 have_push (w ∷ vs) (t ∷ sorts) s missing v h k = (h.0, have_push vs sorts s missing v h.1 k)
 
+-- the next sort is that at the place behind the values
+pub have_next : (vs : List Value) (sorts : List Sort) (s : Sort) (missing : List Sort) → HaveSorts vs sorts (s ∷ missing) → slice_get sorts (length vs) ≡ Some s
+have_next [] sorts s missing h = rw h refl
+have_next (v ∷ vs) [] s missing h = absurd h
+have_next (v ∷ vs) (t ∷ sorts) s missing h = have_next vs sorts s missing h.1
+
 -- a new value
 have_set : (vs : List Value) (sorts missing : List Sort) (n : ℕ) (s : Sort) (v : Value) → HaveSorts vs sorts missing → slice_get sorts n ≡ Some s → has_sort v s ≡ true → HaveSorts (slice_set vs n v) sorts missing
 have_set [] sorts missing n s v h e k = h
@@ -332,6 +338,16 @@ local_changes : (prog : Program) (v : Value) (frames : List Frame) (ws : List Wa
 local_changes prog v [] ws h = h
 local_changes prog v (f ∷ rest) ws h = h
 
+local_of_innermost : (prog : Program) (frames : List Frame) (s : Sort) (later : List Sort) → AreFrames prog frames (s ∷ later)
+    → (f : Frame) × (rest : List Frame) × (proc : SrcProc) × (frames ≡ f ∷ rest) × (slice_get prog.procs f.proc ≡ Some proc) × (slice_get (locals_of proc) (length f.locals) ≡ Some s)
+local_of_innermost prog [] s later h = cc
+local_of_innermost prog (f ∷ rest) s later (proc, frame, callers) = (f, rest, proc, refl, frame.0, have_next f.locals (locals_of proc) s later frame.1)
+
+target_of_innermost : (prog : Program) (frames : List Frame) (missing : List Sort) (x : Var) (o : Option Sort) (ws : List Want) → AreFrames prog frames missing → AreChanges prog frames (AVariable x o ∷ ws)
+    → (f : Frame) × (rest : List Frame) × (proc : SrcProc) × (frames ≡ f ∷ rest) × (slice_get prog.procs f.proc ≡ Some proc) × (o ≡ sort_of_target (scope_of prog proc) x)
+target_of_innermost prog [] missing x o ws h changes = cc
+target_of_innermost prog (f ∷ rest) missing x o ws (proc, frame, callers) changes = (f, rest, proc, refl, frame.0, (changes proc frame.0).0)
+
 module _ (prog : Program) (c : Config) (sorted : AreSorted prog c) (ws : List Want) where
   no_value : AsksForNone sorted.changes
   no_value = changes_no_value prog c.frames sorted.missing_locals sorted.changes sorted.frames sorted.are_changes
@@ -385,6 +401,38 @@ module _ (prog : Program) (c : Config) (sorted : AreSorted prog c) (ws : List Wa
         wants = is;
       }
 
+  -- the sort of the first constant, or of the first global, that has no value
+  pub const_next : (s : Sort) → c.wants ≡ AConst s ∷ ws → slice_get (sorts_of prog.consts) (length c.consts) ≡ Some s
+  const_next s asks =
+      let (later, cs, is) = const_first sorted.missing_consts sorted.missing_globals sorted.missing_locals sorted.changes ws s no_value (rw asks at sorted.wants) in
+      have_next c.consts (sorts_of prog.consts) s later (rw cs at sorted.consts)
+
+  pub global_next : (s : Sort) → c.wants ≡ AGlobal s ∷ ws → slice_get (sorts_of prog.globals) (length c.globals) ≡ Some s
+  global_next s asks =
+      let (later, gs, is) = global_first sorted.missing_consts sorted.missing_globals sorted.missing_locals sorted.changes ws s no_value (rw asks at sorted.wants) in
+      have_next c.globals (sorts_of prog.globals) s later (rw gs at sorted.globals)
+
+  -- the first local of the innermost frame that has no value
+  pub local_next : (s : Sort) → c.wants ≡ ALocal s ∷ ws
+      → (f : Frame) × (rest : List Frame) × (proc : SrcProc) × (c.frames ≡ f ∷ rest) × (slice_get prog.procs f.proc ≡ Some proc) × (slice_get (locals_of proc) (length f.locals) ≡ Some s)
+  local_next s asks =
+      let (later, ls, is) = local_first sorted.missing_consts sorted.missing_globals sorted.missing_locals sorted.changes ws s no_value (rw asks at sorted.wants) in
+      local_of_innermost prog c.frames s later (rw ls at sorted.frames)
+
+  changes_next : (x : Var) (o : Option Sort) → c.wants ≡ AVariable x o ∷ ws → sorted.changes ≡ AVariable x o ∷ ws
+  changes_next x o asks = first_is sorted.missing_consts sorted.missing_globals sorted.missing_locals (rw asks at sorted.wants)
+    where
+      first_is : (cs gs ls : List Sort) → AVariable x o ∷ ws ≡ wanted cs gs ls sorted.changes → sorted.changes ≡ AVariable x o ∷ ws
+      first_is (t ∷ cs) gs ls e = cc
+      first_is [] (g ∷ gs) ls e = cc
+      first_is [] [] (l ∷ ls) e = cc
+      first_is [] [] [] e = sym e
+
+  -- a variable that the innermost frame sees, with its sort
+  pub variable_next : (x : Var) (o : Option Sort) → c.wants ≡ AVariable x o ∷ ws
+      → (f : Frame) × (rest : List Frame) × (proc : SrcProc) × (c.frames ≡ f ∷ rest) × (slice_get prog.procs f.proc ≡ Some proc) × (o ≡ sort_of_target (scope_of prog proc) x)
+  variable_next x o asks = target_of_innermost prog c.frames sorted.missing_locals x o ws sorted.frames (rw (changes_next x o asks) at sorted.are_changes)
+
   -- a variable is written, and the others are still asked for
   pub variable_sorted : (x : Var) (v : Value) (s : Sort) (o : Option Sort) → o ≡ Some s → c.wants ≡ AVariable x o ∷ ws → has_sort v s ≡ true → AreSorted prog (with_variable (record c { wants = ws }) x v c.frames)
   variable_sorted x v s o is asks k = at c.frames refl
@@ -392,17 +440,8 @@ module _ (prog : Program) (c : Config) (sorted : AreSorted prog c) (ws : List Wa
       all : AreComplete prog c
       all = complete prog c sorted (rw asks tt)
 
-      asked : sorted.changes ≡ AVariable x o ∷ ws
-      asked = first_is sorted.missing_consts sorted.missing_globals sorted.missing_locals (rw asks at sorted.wants)
-        where
-          first_is : (cs gs ls : List Sort) → AVariable x o ∷ ws ≡ wanted cs gs ls sorted.changes → sorted.changes ≡ AVariable x o ∷ ws
-          first_is (t ∷ cs) gs ls e = cc
-          first_is [] (g ∷ gs) ls e = cc
-          first_is [] [] (l ∷ ls) e = cc
-          first_is [] [] [] e = sym e
-
       changes : AreChanges prog c.frames (AVariable x o ∷ ws)
-      changes = rw asked at sorted.are_changes
+      changes = rw (changes_next x o asks) at sorted.are_changes
 
       at : (frames : List Frame) → c.frames ≡ frames → AreSorted prog (with_variable (record c { wants = ws }) x v frames)
       at [] are = let no = rw are at changes in cc
