@@ -5,4 +5,6 @@ pub mod Rows
 pub mod Runs
 pub mod Sorted
 pub mod Sorting
+pub mod Stacked
 pub mod Starting
+pub mod Takes

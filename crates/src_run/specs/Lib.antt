@@ -1,5 +1,9 @@
+pub mod Choosing
+pub mod Edges
 pub mod Machine
 pub mod Plain
 pub mod Running
 pub mod Search
 pub mod Sorted
+pub mod State
+pub mod Stepping

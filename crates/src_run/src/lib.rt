@@ -2,10 +2,14 @@
 //! programs that ask for few bools.
 #![tactic(auto)]
 
+mod choosing;
+mod edges;
 mod machine;
 mod plain;
 mod running;
 mod searching;
+mod state;
+mod stepping;
 #[cfg(test)]
 mod tests;
 

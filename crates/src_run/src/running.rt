@@ -44,8 +44,8 @@ pub fn bool_values(alloc: Global, given: &[bool]) -> Result<Items<Value>, AllocE
     Ok(values)
 }
 
-// Whether a condition is true.
-fn is_true(alloc: Global, condition: &Expr, env: &Env) -> Result<bool, AllocError>
+/// Whether a condition is true.
+pub fn is_true(alloc: Global, condition: &Expr, env: &Env) -> Result<bool, AllocError>
     requires { IsTrue (reads env.now condition.now) }
     ensures { IfOk result (λ b. b ≡ holds env.now condition.now) }
 {
@@ -58,8 +58,8 @@ fn is_true(alloc: Global, condition: &Expr, env: &Env) -> Result<bool, AllocErro
     }
 }
 
-// Gives a variable a value.
-fn write(env: &mut Env, var: Var, value: Value)
+/// Gives a variable a value.
+pub fn write(env: &mut Env, var: Var, value: Value)
     ensures { env.new ≡ spec.written env.old var value }
 {
     match var {
@@ -108,7 +108,8 @@ fn write_all(
     Ok(())
 }
 
-fn assign(alloc: Global, pairs: &[(Var, Expr)], env: &mut Env) -> Result<(), AllocError>
+/// Runs an assignment: all values first, then the writes, in order.
+pub fn assign(alloc: Global, pairs: &[(Var, Expr)], env: &mut Env) -> Result<(), AllocError>
     requires { IsTrue (list_all (λ p. reads env.old p.1) pairs.now) }
     ensures { OnOk result (env.new ≡ spec.all_written env.old (map (λ p. p.0) pairs.now) (map (λ p. eval env.old p.1) pairs.now)) }
 {
