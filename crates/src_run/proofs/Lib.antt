@@ -1,6 +1,7 @@
 pub mod Environments
 pub mod Plainly
 pub mod Programs
+pub mod Replays
 pub mod Rows
 pub mod Runs
 pub mod Sorted

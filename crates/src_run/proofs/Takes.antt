@@ -1,6 +1,7 @@
 -- What is asked for next, and what taking it does.
 use Rattle.std.proofs.Common.{◌≡◌, ◌↔◌, ℕ, zero, suc, ◌+◌, nat_eq, Bool, true, false, List, [], ◌∷◌, ◌++◌, map, drop, slice_get, None, Some, refl, sym, ap, ◌∙◌, subst, if◌then◌else◌, arith, IsTrue}
 use Rattle.std.proofs.lemmas.Bool.Decides.{nat_tests}
+use Rattle.hy_val.proofs.ResultSorts.{same_scalar_is}
 use Rattle.hy_val.specs.Sorts.{same_scalar}
 use Rattle.hy_val.specs.Table.{Table}
 use Rattle.hy_val.specs.declared.atom.Atom.{Atom}
@@ -19,6 +20,7 @@ use Rattle.src_run.specs.Choosing.{is_const, asks_const, CanTest, CanTake, CanAc
 use Rattle.src_run.specs.Machine.{Config, Want, AConst, AGlobal, ALocal, AVariable, ATarget, same_atom, same_pairs, same_value, are_allowed, tested, with_status}
 use Rattle.src_run.specs.State.{want_of}
 use Rattle.src_run.proofs.Environments.{and-first, and-second, and-both}
+use Rattle.src_run.proofs.Runs.{either_way}
 
 -- ---- equal values
 
@@ -31,12 +33,6 @@ nat_eq-is m n h = grind (arith, nat_tests)
 scalar_self : (s : Scalar) → same_scalar s s ≡ true
 scalar_self BoolSort = refl
 scalar_self (BvSort w) = nat_eq-refl w
-
-scalar_is : (s t : Scalar) → same_scalar s t ≡ true → s ≡ t
-scalar_is BoolSort BoolSort h = refl
-scalar_is BoolSort (BvSort w) h = cc
-scalar_is (BvSort v) BoolSort h = cc
-scalar_is (BvSort v) (BvSort w) h = ap BvSort (nat_eq-is v w h)
 
 atom_self : (a : Atom) → same_atom a a ≡ true
 atom_self (BoolAtom true) = refl
@@ -88,9 +84,9 @@ value_is (AtomValue a) (AtomValue b) h = ap AtomValue (atom_is a b h)
 value_is (AtomValue a) (MapValue n) h = cc
 value_is (MapValue m) (AtomValue b) h = cc
 value_is (MapValue m) (MapValue n) h =
-    let index = scalar_is m.index n.index (and-first (same_scalar m.index n.index) _ h) in
+    let index = same_scalar_is m.index n.index (and-first (same_scalar m.index n.index) _ h) in
     let rest = and-second (same_scalar m.index n.index) _ h in
-    let elem = scalar_is m.elem n.elem (and-first (same_scalar m.elem n.elem) _ rest) in
+    let elem = same_scalar_is m.elem n.elem (and-first (same_scalar m.elem n.elem) _ rest) in
     ap MapValue (table_is m n index elem (pairs_are m.pairs n.pairs (and-second (same_scalar m.elem n.elem) _ rest)))
 
 -- what tells whether two values are equal is the machine's test
@@ -131,15 +127,11 @@ tested_by prog c (ALocal sort ∷ ws) P h k = k
 tested_by prog c (AVariable x sort ∷ ws) P h k = k
 tested_by prog c (ATarget targets ∷ ws) P h k = k
 
-either : (P : Config → Type 0) (b : Bool) (c d : Config) → P c → P d → P (if b then c else d)
-either P true c d h k = h
-either P false c d h k = k
-
 -- the test changes the status alone
 tested_keeps : (prog : Program) (c : Config) (ws : List Want) → (((tested prog c ws).consts ≡ c.consts) × ((tested prog c ws).wants ≡ c.wants))
 tested_keeps prog c ws =
     let P : Config → Type 0 = λ d. (d.consts ≡ c.consts) × (d.wants ≡ c.wants) in
-    tested_by prog c ws P (refl, refl) (either P (are_allowed prog c.consts) c (with_status c Blocked) (refl, refl) (refl, refl))
+    tested_by prog c ws P (refl, refl) (either_way P (are_allowed prog c.consts) c (with_status c Blocked) (refl, refl) (refl, refl))
 
 pub can_test : (prog : Program) (c : Config) (ws : List Want) → CanTest prog (tested prog c ws) → CanTest prog c
 can_test prog c ws h = let k = tested_keeps prog c ws in rw (k.0, k.1) at h

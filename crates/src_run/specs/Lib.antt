@@ -2,6 +2,7 @@ pub mod Choosing
 pub mod Edges
 pub mod Machine
 pub mod Plain
+pub mod Replaying
 pub mod Running
 pub mod Search
 pub mod Sorted

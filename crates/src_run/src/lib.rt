@@ -1,11 +1,12 @@
-//! The machine: what a run of the source program does on a list of choices, and the search over all lists for the plain
-//! programs that ask for few bools.
+//! The machine: what a run of the source program does on a list of choices, its replay, and the search over all lists for the
+//! plain programs that ask for few bools.
 #![tactic(auto)]
 
 mod choosing;
 mod edges;
 mod machine;
 mod plain;
+mod replaying;
 mod running;
 mod searching;
 mod state;
@@ -15,4 +16,5 @@ mod tests;
 
 pub use machine::{Choice, Status};
 pub use plain::is_plain;
+pub use replaying::replay;
 pub use searching::{Failing, search};
