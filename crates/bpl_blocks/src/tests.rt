@@ -13,24 +13,24 @@ use src_prog::{Cmd, Next, Prog, SrcBlock, SrcProc};
 use std::alloc::{AllocError, Global};
 use std::test::Fail;
 
-// A loop that counts to three.
-const COUNTED: &[u8] =
+/// A loop that counts to three.
+pub const COUNTED: &[u8] =
     b"function {:bvbuiltin \"bvadd\"} ADD(a: bv8, b: bv8) returns (r: bv8);\nprocedure main() {\n  var i: bv8;\n  i := 0bv8;\n  while (i != 3bv8) { i := ADD(i, 1bv8); }\n  assert false;\n}\n";
 
-// A procedure that calls itself from a branch inside a loop.
-const RECURSIVE: &[u8] =
+/// A procedure that calls itself from a branch inside a loop.
+pub const RECURSIVE: &[u8] =
     b"function {:bvbuiltin \"bvadd\"} ADD(a: bv8, b: bv8) returns (r: bv8);\nvar d: bv8;\nprocedure p() modifies d; {\n  var i: bv8;\n  d := ADD(d, 1bv8);\n  i := 0bv8;\n  while (i != 3bv8) {\n    assert d != 2bv8;\n    if (i == 2bv8) { call p(); }\n    i := ADD(i, 1bv8);\n  }\n}\nprocedure main() modifies d; { d := 0bv8; call p(); }\n";
 
-// A loop in a loop.
-const NESTED: &[u8] =
+/// A loop in a loop.
+pub const NESTED: &[u8] =
     b"function {:bvbuiltin \"bvadd\"} ADD(a: bv8, b: bv8) returns (r: bv8);\nprocedure main() {\n  var i, j, n: bv8;\n  i := 0bv8; n := 0bv8;\n  while (i != 2bv8) {\n    j := 0bv8;\n    while (j != 2bv8) { j, n := ADD(j, 1bv8), ADD(n, 1bv8); }\n    i := ADD(i, 1bv8);\n  }\n  assert n != 4bv8;\n}\n";
 
-// A driver that takes and releases a lock.
-const DRIVER: &[u8] =
+/// A driver that takes and releases a lock.
+pub const DRIVER: &[u8] =
     b"type i32 = bv32;\ntype byte = bv8;\ntype mem = [i32]byte;\nconst unique LOCK_FREE: byte;\nconst unique LOCK_HELD: byte;\nfunction {:bvbuiltin \"bvadd\"} $add.bv32(p1: i32, p2: i32) returns (i32);\nfunction {:bvbuiltin \"bvult\"} $ult.bv32(p1: i32, p2: i32) returns (bool);\nfunction {:inline} $is_held(M: mem, p: i32) returns (bool) { M[p] == LOCK_HELD }\nvar $M: mem;\nvar $count: i32;\n\nprocedure acquire(l: i32)\n  modifies $M;\n{\n  assert {:msg \"taken twice\"} !$is_held($M, l);\n  $M[l] := LOCK_HELD;\n}\n\nprocedure release(l: i32)\n  modifies $M;\n{\n  assert {:msg \"released twice\"} $is_held($M, l);\n  $M[l] := LOCK_FREE;\n}\n\nprocedure read_reg(p: i32) returns (v: i32)\n{\n  var raw: byte;\n  havoc raw;\n  v := 0bv24 ++ raw;\n}\n\nprocedure irq(dev: i32, flag: bool)\n  modifies $M, $count;\n{\n  call acquire(dev);\n  $count := $add.bv32($count, 1bv32);\n  if (flag) {\n    call release(dev);\n  }\n  call release(dev);\n}\n\nprocedure handle(dev: i32, n: i32)\n  modifies $M, $count;\n{\n  var k: i32;\n  var last: bool;\n  k := 0bv32;\n  while ($ult.bv32(k, n)) {\n    last := $add.bv32(k, 1bv32) == 2bv32;\n    call irq(dev, last);\n    k := $add.bv32(k, 1bv32);\n  }\n}\n\nprocedure {:entrypoint} main()\n  modifies $M, $count;\n{\n  var dev: i32;\n  var n: i32;\n  assume {:sourceloc \"drv.c\", 41, 3} true;\n  dev := 4096bv32;\n  $M[dev] := LOCK_FREE;\n  $count := 0bv32;\n  call n := read_reg(dev);\n  assume $ult.bv32(n, 3bv32);\n  call handle(dev, n);\n  assert {:msg \"left held\"} !$is_held($M, dev);\n}\n";
 
-// The program of a text, which has no fault.
-fn program(alloc: Global, text: &[u8]) -> Result<Prog, AllocError> {
+/// The program of a text, which has no fault.
+pub fn program(alloc: Global, text: &[u8]) -> Result<Prog, AllocError> {
     let Ok(found) = tokens(alloc, text) else {
         return Err(AllocError);
     };
