@@ -1,4 +1,5 @@
 pub mod Environments
+pub mod Naming
 pub mod Plainly
 pub mod Programs
 pub mod Replays

@@ -16,7 +16,7 @@ use Rattle.src_run.specs.declared.state.Step.TheVariants.{On, Over}
 use Rattle.src_run.specs.declared.state.State.{State}
 use Rattle.src_run.specs.Choosing.{asks_const, CanTest, CanTake}
 use Rattle.src_run.specs.Machine.{Config, Frame, Want, AConst, AGlobal, ALocal, AVariable, ATarget, Stands, GoesOn, Comes, env_of, within, after, turn, going, tick, take_choice, tested, begin, begin_in, wants_of, bad}
-use Rattle.src_run.specs.Replaying.{first, left_over, ending, behind, IsStep, TurnsTo}
+use Rattle.src_run.specs.Replaying.{first, left_over, ending, behind, IsStep, Finishes, Asks, Ends, TurnsTo}
 use Rattle.src_run.specs.Sorted.{AreSorted, AsksForNone, AsksForNoConst, HasVariables}
 use Rattle.src_run.specs.State.{IsOver, StepsTo, config_of, want_of}
 use Rattle.src_run.specs.Stepping.{cmd_reads, CanTick}
@@ -81,7 +81,7 @@ none_left status n i cs h = ap (left_over status n) (drop_all i cs h)
 pub asks_nothing : (s : State) → length s.wants ≤ s.given → (config_of s).wants ≡ []
 asks_nothing s h = ap (map want_of) (drop_all s.given s.wants h)
 
-item_there : {A : Type 0} (n : ℕ) (xs : List A) → n < length xs → (x : A) × (slice_get xs n ≡ Some x)
+pub item_there : {A : Type 0} (n : ℕ) (xs : List A) → n < length xs → (x : A) × (slice_get xs n ≡ Some x)
 item_there n [] h = absurd (omega arith)
 item_there zero (x ∷ xs) h = (x, refl)
 item_there (suc n) (x ∷ xs) h = item_there n xs (omega arith)
@@ -115,13 +115,18 @@ stands prog bound index d (x ∷ xs) Cut e o = over_some prog bound index d x xs
 stands prog bound index d xs (BadChoice wrong) e o = record { turns = 1; last = d; runs = ap (after (λ i b zs. within zero prog bound i b zs)) (ap (λ s. turn prog bound index d s xs) e); is = e }
 
 -- a run that asks stands where no choice is left
-pub stands_asking : (prog : Program) (bound index : ℕ) (c : Config) (want : Want) (rest : List Want) (xs : List Choice) → c.status ≡ Going → c.wants ≡ want ∷ rest → xs ≡ [] → Comes prog bound index c xs Going
+pub stands_asking : (prog : Program) (bound index : ℕ) (c : Config) (want : Want) (rest : List Want) (xs : List Choice) → c.status ≡ Going → c.wants ≡ want ∷ rest → xs ≡ [] → Finishes prog bound index c xs Going
 stands_asking prog bound index c want rest xs status e none =
-    let is : turn prog bound index c c.status xs ≡ Stands c = rw (status, e, none) refl in record { turns = 1; last = c; runs = ap (after (λ i b zs. within zero prog bound i b zs)) is; is = status }
+    let is : turn prog bound index c c.status xs ≡ Stands c = rw (status, e, none) refl in Asks is status
 
 -- one turn in front
 pub one_more : (prog : Program) (bound index next : ℕ) (c d : Config) (xs ys : List Choice) (status : Status) → turn prog bound index c c.status xs ≡ GoesOn next d ys → Comes prog bound next d ys status → Comes prog bound index c xs status
 one_more prog bound index next c d xs ys status e h = record { turns = suc h.turns; last = h.last; runs = ap (after (λ i b zs. within h.turns prog bound i b zs)) e ∙ h.runs; is = h.is }
+
+-- a run that finishes has the status
+pub finished : (prog : Program) (bound index : ℕ) (c : Config) (xs : List Choice) (status : Status) → Finishes prog bound index c xs status → Comes prog bound index c xs status
+finished prog bound index c xs status (Asks t e) = record { turns = 1; last = c; runs = ap (after (λ i b zs. within zero prog bound i b zs)) t; is = e }
+finished prog bound index c xs status (Ends next d left s t e o is) = one_more prog bound index next c d xs left status t (subst (λ v. Comes prog bound next d left v) (sym is) (stands prog bound next d left s e o))
 
 -- where a turn goes on to a configuration that a step led to
 pub turn_is : (prog : Program) (bound index next : ℕ) (choices : List Choice) (old expected : Config) (new : State) (step : Step) → is_program prog ≡ true → AreSorted prog old → next ≤ length choices
@@ -130,7 +135,7 @@ turn_is prog bound index next choices old expected new On h sorted within t s =
     let is = t ∙ ap (λ c. GoesOn next c (drop next choices)) (sym s) in
     (is, within, subst (IsSortedTurn prog) is (turn_sorted prog h bound index old old.status (drop index choices) sorted))
 turn_is prog bound index next choices old expected new (Over status) h sorted within t s =
-    one_more prog bound index next old expected (drop index choices) (drop next choices) (ending status next (drop next choices)) t (stands prog bound next expected (drop next choices) status s.0 s.1)
+    Ends next expected (drop next choices) status t s.0 s.1 refl
 
 -- a step of a run that asks for nothing
 pub tick_turn : (prog : Program) (bound index : ℕ) (choices : List Choice) (old : Config) → old.status ≡ Going → old.wants ≡ [] → turn prog bound index old old.status (drop index choices) ≡ GoesOn index (tick prog bound old) (drop index choices)

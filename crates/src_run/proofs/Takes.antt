@@ -1,6 +1,8 @@
 -- What is asked for next, and what taking it does.
-use Rattle.std.proofs.Common.{◌≡◌, ◌↔◌, ℕ, zero, suc, ◌+◌, nat_eq, Bool, true, false, List, [], ◌∷◌, ◌++◌, map, drop, slice_get, None, Some, refl, sym, ap, ◌∙◌, subst, if◌then◌else◌, arith, IsTrue}
+use Rattle.std.proofs.Common.{◌≡◌, ◌↔◌, ℕ, zero, suc, ◌+◌, option_map, nat_eq, Bool, true, false, List, [], ◌∷◌, ◌++◌, map, drop, slice_get, None, Some, refl, sym, ap, ◌∙◌, subst, if◌then◌else◌, arith, IsTrue}
 use Rattle.std.proofs.lemmas.Bool.Decides.{nat_tests}
+use Rattle.std.proofs.lemmas.List.{map-append}
+use Rattle.std.proofs.lemmas.Option.{slice_get-map}
 use Rattle.hy_val.proofs.ResultSorts.{same_scalar_is}
 use Rattle.hy_val.specs.Sorts.{same_scalar}
 use Rattle.hy_val.specs.Table.{Table}
@@ -11,6 +13,9 @@ use Rattle.hy_val.specs.declared.sort.ScalarKind.TheVariants.{Bool as BoolSort, 
 use Rattle.hy_val.specs.declared.value.Value.{Value}
 use Rattle.hy_val.specs.declared.value.Value.TheVariants.{Atom as AtomValue, Map as MapValue}
 use Rattle.src_prog.specs.Program.{Program}
+use Rattle.src_prog.specs.Scope.{locals_of, sorts_of}
+use Rattle.src_prog.specs.declared.proc.Named.{Named}
+use Rattle.src_prog.specs.declared.proc.SrcProc.{SrcProc}
 use Rattle.src_run.specs.declared.choosing.Taken.{Taken}
 use Rattle.src_run.specs.declared.choosing.Taken.TheVariants.{Const, Global, Local, Variable, To}
 use Rattle.src_run.specs.declared.machine.Choice.{Choice}
@@ -143,3 +148,12 @@ can_accept prog bound index c choice want rest (Global v) h e t = tt
 can_accept prog bound index c choice want rest (Local v) h e t = tt
 can_accept prog bound index c choice want rest (Variable x v) h e t = tt
 can_accept prog bound index c choice want rest (To to) h e t = tt
+
+-- ---- locals
+
+-- the sort of a local is that of its name
+pub local_sort : (proc : SrcProc) (n : ℕ) → slice_get (locals_of proc) n ≡ option_map (λ (name : Named). name.sort) (slice_get (proc.ins ++ (proc.outs ++ proc.locals)) n)
+local_sort proc n =
+    let sorts : locals_of proc ≡ sorts_of (proc.ins ++ (proc.outs ++ proc.locals)) =
+        ap (λ ss. sorts_of proc.ins ++ ss) (sym (map-append (λ (name : Named). name.sort) proc.outs proc.locals)) ∙ sym (map-append (λ (name : Named). name.sort) proc.ins (proc.outs ++ proc.locals)) in
+    ap (λ ss. slice_get ss n) sorts ∙ slice_get-map (λ (name : Named). name.sort) (proc.ins ++ (proc.outs ++ proc.locals)) n

@@ -1,6 +1,7 @@
 pub mod Choosing
 pub mod Edges
 pub mod Machine
+pub mod Names
 pub mod Plain
 pub mod Replaying
 pub mod Running

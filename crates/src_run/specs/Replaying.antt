@@ -5,13 +5,15 @@ use Rattle.src_prog.specs.declared.proc.SrcProc.{SrcProc}
 use Rattle.src_run.specs.declared.machine.Choice.{Choice}
 use Rattle.src_run.specs.declared.machine.Status.{Status}
 use Rattle.src_run.specs.declared.machine.Status.TheVariants.{Going, Ended, Failed, Blocked, Cut, BadChoice}
+use Rattle.src_run.specs.declared.replaying.Begun.{Begun}
+use Rattle.src_run.specs.declared.replaying.Begun.TheVariants.{Going as BegunGoing, Over as BegunOver}
 use Rattle.src_run.specs.declared.replaying.Onward.{Onward}
 use Rattle.src_run.specs.declared.replaying.Onward.TheVariants.{On as OnwardOn, Over as OnwardOver}
 use Rattle.src_run.specs.declared.state.Step.{Step}
 use Rattle.src_run.specs.declared.state.Step.TheVariants.{On, Over}
-use Rattle.src_run.specs.Machine.{Config, Comes, GoesOn, turn, first_frame, wants_of}
+use Rattle.src_run.specs.Machine.{Config, Stands, GoesOn, turn, begin, first_frame, wants_of}
 use Rattle.src_run.specs.Sorted.{AreSorted}
-use Rattle.src_run.specs.State.{IsOver}
+use Rattle.src_run.specs.State.{IsOver, config_of}
 
 -- the entry at its first command, before any choice and any test
 abbrev pub first : Program → ℕ → SrcProc → Config
@@ -43,8 +45,18 @@ abbrev pub IsStep : Step → Type 0
 IsStep On = Unit {0}
 IsStep (Over status) = IsOver status
 
+-- the entry's run begins so
+abbrev pub BeginsAs : Program → ℕ → Begun → Type 0
+BeginsAs prog entry (BegunGoing s) = (config_of s ≡ begin prog entry) × AreSorted prog (config_of s)
+BeginsAs prog entry (BegunOver status) = ((begin prog entry).status ≡ status) × IsOver status
+
+-- the run stands with this status, behind no turn or one
+pub data Finishes (prog : Program) (bound index : ℕ) (c : Config) (choices : List Choice) (status : Status) : Type 0 where
+  Asks : turn prog bound index c c.status choices ≡ Stands c → c.status ≡ status → Finishes prog bound index c choices status
+  Ends : (next : ℕ) (d : Config) (left : List Choice) (s : Status) → turn prog bound index c c.status choices ≡ GoesOn next d left → d.status ≡ s → IsOver s → status ≡ ending s next left → Finishes prog bound index c choices status
+
 -- a turn leads on to this configuration, or the run comes to stand
 abbrev pub TurnsTo : Program → (bound index : ℕ) → List Choice → Config → Config → Onward → Type 0
 TurnsTo prog bound index choices old new (OnwardOn next) =
     (turn prog bound index old old.status (drop index choices) ≡ GoesOn next new (drop next choices)) × (next ≤ length choices) × AreSorted prog new
-TurnsTo prog bound index choices old new (OnwardOver status) = Comes prog bound index old (drop index choices) status
+TurnsTo prog bound index choices old new (OnwardOver status) = Finishes prog bound index old (drop index choices) status

@@ -2,6 +2,7 @@
 //! plain programs that ask for few bools.
 #![tactic(auto)]
 
+mod asking;
 mod choosing;
 mod edges;
 mod machine;
@@ -14,6 +15,7 @@ mod stepping;
 #[cfg(test)]
 mod tests;
 
+pub use asking::asked;
 pub use machine::{Choice, Status};
 pub use plain::is_plain;
 pub use replaying::replay;

@@ -74,6 +74,15 @@ fn first_state(alloc: Global, prog: &Prog, entry: u32, proc: &SrcProc) -> Result
     })
 }
 
+/// How a run begins.
+#[derive(Drop)]
+pub enum Begun {
+    /// It goes on from this state.
+    Going(State),
+    /// It stands with this status.
+    Over(Status),
+}
+
 /// Where a turn leads.
 #[derive(Clone, Copy)]
 pub enum Onward {
@@ -122,8 +131,21 @@ fn behind(step: Step, index: usize, choices: &[Choice]) -> Onward
     }
 }
 
-// One turn of a run: a step where nothing is asked for, else the next choice, if there is one.
-fn turn(
+/// The begin of the entry's run.
+pub fn begin(alloc: Global, prog: &Prog, entry: u32) -> Result<Begun, AllocError>
+    requires { entry < length prog.now.procs }
+    ensures { IfOk result (λ begun. spec.BeginsAs prog.now entry begun) }
+{
+    let _consts = prog.consts();
+    let mut state = first_state(alloc, prog, entry, &prog.procs()[entry as usize])?;
+    match tested(alloc, prog, &mut state)? {
+        Step::On => Ok(Begun::Going(state)),
+        Step::Over(status) => Ok(Begun::Over(status)),
+    }
+}
+
+/// One turn of a run: a step where nothing is asked for, else the next choice, if there is one.
+pub fn turn(
     alloc: Global,
     prog: &Prog,
     bound: u32,
@@ -185,10 +207,8 @@ pub fn replay(
     requires { entry < length prog.now.procs }
     ensures { IfOk result (λ status. HasStatus prog.now entry bound choices.now status) }
 {
-    let _consts = prog.consts();
-    let mut state = first_state(alloc, prog, entry, &prog.procs()[entry as usize])?;
-    match tested(alloc, prog, &mut state)? {
-        Step::On => run_on(alloc, prog, bound, choices, state),
-        Step::Over(status) => Ok(ending(status, 0, choices)),
+    match begin(alloc, prog, entry)? {
+        Begun::Going(state) => run_on(alloc, prog, bound, choices, state),
+        Begun::Over(status) => Ok(ending(status, 0, choices)),
     }
 }

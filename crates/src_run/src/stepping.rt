@@ -1,6 +1,7 @@
 //! Single steps of a run: the next command, or the end of a block.
 ghost use Rattle.std.specs.Prelude.{◌≡◌, ◌+◌, ◌<◌, ◌^◌, ◌++◌, ◌∷◌, ℕ, nat_lt, length, map, slice_get, take, drop, IfOk, IsTrue, OnOk, Some};
 ghost use Rattle.std.specs.List.{list_all};
+ghost use Rattle.std.specs.Option.{option_copied};
 ghost use Rattle.hy_val.specs.Exprs.{eval, reads};
 ghost use Rattle.src_prog.specs.Scope.{locals_of, sort_of_target, sorts_of};
 ghost use Rattle.src_prog.specs.Shape.{scope_of};
@@ -20,20 +21,28 @@ use src_prog::{Cmd, Named, Next, Prog, SrcProc};
 use std::alloc::{AllocError, Global};
 use std::mem;
 
-// The sort of a variable of this number among the locals of a procedure.
-fn sort_of_local(proc: &SrcProc, number: usize) -> Option<Sort>
-    ensures { result ≡ slice_get (locals_of proc.now) number }
+/// The local of this number of a procedure: its ins, then its outs, then its other locals.
+pub fn local_at(proc: &SrcProc, number: usize) -> Option<&Named>
+    ensures { option_copied result ≡ slice_get (proc.now.ins ++ (proc.now.outs ++ proc.now.locals)) number }
 {
     let mut place = number;
     if place < proc.ins.len() {
-        return Some(proc.ins.as_slice()[place].sort);
+        return at(proc.ins.as_slice(), place);
     }
     place -= proc.ins.len();
     if place < proc.outs.len() {
-        return Some(proc.outs.as_slice()[place].sort);
+        return at(proc.outs.as_slice(), place);
     }
     place -= proc.outs.len();
-    match proc.locals.get(place) {
+    at(proc.locals.as_slice(), place)
+}
+
+// The sort of the local of this number.
+#[tactic(auto, using(crate::proofs::Takes::local_sort))]
+fn sort_of_local(proc: &SrcProc, number: usize) -> Option<Sort>
+    ensures { result ≡ slice_get (locals_of proc.now) number }
+{
+    match local_at(proc, number) {
         Some(name) => Some(name.sort),
         None => None,
     }
