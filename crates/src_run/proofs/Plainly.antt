@@ -26,6 +26,7 @@ use Rattle.src_run.specs.Machine.{Config, Frame, Store, Want, AGlobal, ALocal, A
 use Rattle.src_run.specs.Plain.{is_without_call}
 use Rattle.src_run.specs.Running.{Leads, StandsBehind, wants_bool, at_cmd, bool_sort, bool_value, Bools, written, all_written, ending, run_of}
 use Rattle.src_run.specs.Search.{bool_choice, bool_choices}
+use Rattle.src_run.proofs.Stacked.{stores_agree, consts_stay}
 use Rattle.src_run.proofs.Environments.{and-first, and-second, is-bool, bools_written, bools_all_written, bools_are, values_bool, target_bool}
 use Rattle.src_run.proofs.Runs.{leads_tick, leads_choice, stands_behind}
 
@@ -226,17 +227,6 @@ havoc_short prog scope bound entry at (x ∷ xs) i env (v ∷ vs) b h few =
     (havoc_short prog scope bound entry at xs (i + 1) (written env x (bool_value v)) vs (bools_written scope env x (bool_value v) b refl) (and-second (is_target scope x) _ h) (omega arith))
 
 -- ---- commands
-
--- writing in the machine and in the environment is the same
-stores_agree : (env : Env) (xs : List Var) (vs : List Value) → write_all (store_in env) xs vs ≡ store_in (all_written env xs vs)
-stores_agree env [] vs = refl
-stores_agree env (x ∷ xs) [] = refl
-stores_agree env (x ∷ xs) (v ∷ vs) = stores_agree (written env x v) xs vs
-
-consts_stay : (env : Env) (xs : List Var) (vs : List Value) → (all_written env xs vs).consts ≡ env.consts
-consts_stay env [] vs = refl
-consts_stay env (x ∷ xs) [] = refl
-consts_stay env (x ∷ xs) (v ∷ vs) = consts_stay (written env x v) xs vs
 
 drop_cons : {A : Type 0} (i : ℕ) (xs : List A) (x : A) (ys : List A) → drop i xs ≡ x ∷ ys → (slice_get xs i ≡ Some x) × (drop (i + 1) xs ≡ ys)
 drop_cons zero [] x ys h = cc

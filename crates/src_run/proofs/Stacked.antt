@@ -48,7 +48,7 @@ open_onto number [] outer = omega arith
 open_onto number (c ∷ cs) outer = at (nat_eq c.place.proc number) refl (open_onto number cs (frame_of c.place c.locals ∷ outer))
   where
     at : (p : Bool) → nat_eq c.place.proc number ≡ p → open_count number (frames_onto cs (frame_of c.place c.locals ∷ outer)) ≡ open_callers number cs + open_count number (frame_of c.place c.locals ∷ outer)
-      → open_count number (frames_onto cs (frame_of c.place c.locals ∷ outer)) ≡ open_callers number (c ∷ cs) + open_count number outer
+        → open_count number (frames_onto cs (frame_of c.place c.locals ∷ outer)) ≡ open_callers number (c ∷ cs) + open_count number outer
     at true e h = let a = counted number (frame_of c.place c.locals) outer true e in let b = counted_callers number c cs true e in omega (arith, h, a, b)
     at false e h = let a = counted number (frame_of c.place c.locals) outer false e in let b = counted_callers number c cs false e in omega (arith, h, a, b)
 
@@ -57,7 +57,7 @@ pub open_count_is : (number : ℕ) (s : State) → open_count number (top_of s �
 open_count_is number s = at (nat_eq s.place.proc number) refl (open_onto number s.callers [])
   where
     at : (p : Bool) → nat_eq s.place.proc number ≡ p → open_count number (callers_of s) ≡ open_callers number s.callers + 0
-      → open_count number (top_of s ∷ callers_of s) ≡ (if p then open_callers number s.callers + 1 else open_callers number s.callers)
+        → open_count number (top_of s ∷ callers_of s) ≡ (if p then open_callers number s.callers + 1 else open_callers number s.callers)
     at true e h = let a = counted number (top_of s) (callers_of s) true e in omega (arith, h, a)
     at false e h = let a = counted number (top_of s) (callers_of s) false e in omega (arith, h, a)
 

@@ -155,5 +155,5 @@ can_accept prog bound index c choice want rest (To to) h e t = tt
 pub local_sort : (proc : SrcProc) (n : ℕ) → slice_get (locals_of proc) n ≡ option_map (λ (name : Named). name.sort) (slice_get (proc.ins ++ (proc.outs ++ proc.locals)) n)
 local_sort proc n =
     let sorts : locals_of proc ≡ sorts_of (proc.ins ++ (proc.outs ++ proc.locals)) =
-        ap (λ ss. sorts_of proc.ins ++ ss) (sym (map-append (λ (name : Named). name.sort) proc.outs proc.locals)) ∙ sym (map-append (λ (name : Named). name.sort) proc.ins (proc.outs ++ proc.locals)) in
+    ap (λ ss. sorts_of proc.ins ++ ss) (sym (map-append (λ (name : Named). name.sort) proc.outs proc.locals)) ∙ sym (map-append (λ (name : Named). name.sort) proc.ins (proc.outs ++ proc.locals)) in
     ap (λ ss. slice_get ss n) sorts ∙ slice_get-map (λ (name : Named). name.sort) (proc.ins ++ (proc.outs ++ proc.locals)) n

@@ -20,7 +20,6 @@ want_of (Local sort) = ALocal sort
 want_of (Variable x sort) = AVariable x sort
 want_of (Target targets) = ATarget targets
 
-
 abbrev pub lap_of : OpenLoop → Lap
 lap_of l = record { head = l.head; exit = l.exit; count = l.count }
 

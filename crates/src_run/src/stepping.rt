@@ -319,12 +319,7 @@ fn follow(
 }
 
 /// One step of a run that asks for nothing: the next command, or the end of the block.
-pub fn tick(
-    alloc: Global,
-    prog: &Prog,
-    bound: u32,
-    state: &mut State,
-) -> Result<Step, AllocError>
+pub fn tick(alloc: Global, prog: &Prog, bound: u32, state: &mut State) -> Result<Step, AllocError>
     requires { spec.CanTick prog.now (config_of state.old) }
     ensures { IfOk result (λ step. StepsTo step state.new (machine.tick prog.now bound (config_of state.old))) }
 {

@@ -14,8 +14,8 @@ loop-preserved c =
       sorted = turned.2;
       within = turned.1;
       reaches = λ more h.
-        joined c.args.prog.now c.args.bound 0 (config_of c.args.state) c.args.choices.now c.name_turn.new.names c.loop.names now more (c.in_ok-name_turn.ensures {u = tt})
-        (c.loop.invariant.reaches (now ++ more) (names_more c.args.prog.now c.args.bound c.loop.index c.in-On.next old (config_of c.turn.new.state) left (drop c.in-On.next c.args.choices.now) more turned.0 h));
+          joined c.args.prog.now c.args.bound 0 (config_of c.args.state) c.args.choices.now c.name_turn.new.names c.loop.names now more (c.in_ok-name_turn.ensures {u = tt})
+          (c.loop.invariant.reaches (now ++ more) (names_more c.args.prog.now c.args.bound c.loop.index c.in-On.next old (config_of c.turn.new.state) left (drop c.in-On.next c.args.choices.now) more turned.0 h));
     }
 
 pub returns-in-Over : goal.returns-in-Over

@@ -10,8 +10,8 @@ loop-preserved c =
       sorted = turned.2;
       within = turned.1;
       reaches = λ status h.
-        c.loop.invariant.reaches status
-        (one_more c.args.prog.now c.args.bound c.loop.index c.in-On.next (config_of c.loop.state) (config_of c.turn.new.state) (drop c.loop.index c.args.choices.now) (drop c.in-On.next c.args.choices.now) status turned.0 h);
+          c.loop.invariant.reaches status
+          (one_more c.args.prog.now c.args.bound c.loop.index c.in-On.next (config_of c.loop.state) (config_of c.turn.new.state) (drop c.loop.index c.args.choices.now) (drop c.in-On.next c.args.choices.now) status turned.0 h);
     }
 
 pub returns-in-Over : goal.returns-in-Over
