@@ -1,9 +1,10 @@
-//! Programs with loops, branches, recursion and calls, and the status of their runs on lists of choices.
+//! Programs with loops, branches, recursion and calls, and the status and the names of their runs on lists of
+//! choices.
 
 use crate::tests::{COUNTED, DRIVER, NESTED, RECURSIVE, program};
 use hy_val::{Atom, BitVec, MapValue, Scalar, Value, Width};
 use sqlite_items::Items;
-use src_run::{Choice, Status, replay};
+use src_run::{Choice, Status, asked, replay};
 use std::alloc::{AllocError, Global};
 use std::test::Fail;
 
@@ -59,6 +60,14 @@ fn choice(alloc: Global, short: Short) -> Result<Choice, AllocError> {
     }
 }
 
+fn choices(alloc: Global, given: &[Short]) -> Result<Items<Choice>, AllocError> {
+    let mut all = Items::new(alloc);
+    for short in given {
+        all.push(choice(alloc, *short)?)?;
+    }
+    Ok(all)
+}
+
 // The status of the run of a procedure of a text on these choices.
 fn status(
     alloc: Global,
@@ -71,11 +80,33 @@ fn status(
     if entry as usize >= prog.procs().len() {
         return Err(AllocError);
     }
-    let mut choices = Items::new(alloc);
-    for short in given {
-        choices.push(choice(alloc, *short)?)?;
+    let all = choices(alloc, given)?;
+    replay(alloc, &prog, entry, bound, all.as_slice())
+}
+
+// The names of the choices of such a run, each with a space behind it, and `-` for a target.
+fn names(
+    alloc: Global,
+    text: &[u8],
+    entry: u32,
+    bound: u32,
+    given: &[Short],
+) -> Result<Vec<u8>, AllocError> {
+    let prog = program(alloc, text)?;
+    if entry as usize >= prog.procs().len() {
+        return Err(AllocError);
     }
-    replay(alloc, &prog, entry, bound, choices.as_slice())
+    let all = choices(alloc, given)?;
+    let found = asked(alloc, &prog, entry, bound, all.as_slice())?;
+    let mut shown = Vec::new(alloc);
+    for name in found.as_slice() {
+        match name {
+            Some(bytes) => shown.extend_from_slice(bytes.as_slice())?,
+            None => shown.push(b'-')?,
+        }
+        shown.push(b' ')?;
+    }
+    Ok(shown)
 }
 
 // The same of the loop that counts to three.
@@ -101,6 +132,8 @@ fn a_loop_fails_within_its_bound(rt: HostRuntime) -> Result<(), Fail> {
     assert_eq!(rt; counted(alloc, 2, &all[..4])?, Status::Cut);
     assert_eq!(rt; counted(alloc, 2, &all[..3])?, Status::Going);
     assert_eq!(rt; counted(alloc, 2, &[])?, Status::Going);
+    let shown = names(alloc, COUNTED, 0, 3, &all)?;
+    assert_eq!(rt; shown.as_slice(), b"i - - - - ".as_slice());
     Ok(())
 }
 
@@ -186,6 +219,9 @@ fn a_driver_releases_twice(rt: HostRuntime) -> Result<(), Fail> {
     ];
     let failed = Status::Failed { proc: 1, assert: 1 };
     assert_eq!(rt; status(alloc, DRIVER, 5, 2, &all)?, failed);
+    let shown = names(alloc, DRIVER, 5, 2, &all)?;
+    let wanted = b"LOCK_FREE LOCK_HELD $M $count dev n v raw raw k last - - - - ";
+    assert_eq!(rt; shown.as_slice(), wanted.as_slice());
     let equal = [Short::Bits(8, 1), Short::Bits(8, 1)];
     assert_eq!(rt; status(alloc, DRIVER, 5, 2, &equal)?, Status::Blocked);
     Ok(())
@@ -218,6 +254,8 @@ fn outs_are_taken_in_order(rt: HostRuntime) -> Result<(), Fail> {
         Short::Bits(8, 6),
     ];
     assert_eq!(rt; status(alloc, SWAPPED, 1, 1, &all)?, Status::Ended);
+    let shown = names(alloc, SWAPPED, 1, 1, &all)?;
+    assert_eq!(rt; shown.as_slice(), b"g x y z a b c y z ".as_slice());
     let mut last = all;
     last[8] = Short::Bits(8, 5);
     let failed = Status::Failed { proc: 1, assert: 1 };
