@@ -44,11 +44,7 @@ fn bits_value(width: u32, bits: u64) -> Result<Value, AllocError> {
 
 fn zeros(alloc: Global) -> Value {
     let index = Scalar::bits(Width::new(32));
-    Value::Map(MapValue::zero(
-        alloc,
-        index,
-        Scalar::bits(Width::new(8)),
-    ))
+    Value::Map(MapValue::zero(alloc, index, Scalar::bits(Width::new(8))))
 }
 
 fn choice(alloc: Global, short: Short) -> Result<Choice, AllocError> {
@@ -128,7 +124,10 @@ fn a_loop_fails_within_its_bound(rt: HostRuntime) -> Result<(), Fail> {
     let failed = Status::Failed { proc: 0, assert: 1 };
     assert_eq!(rt; counted(alloc, 3, &all[..5])?, failed);
     assert_eq!(rt; counted(alloc, 3, &all)?, Status::BadChoice { index: 5 });
-    assert_eq!(rt; counted(alloc, 2, &all[..5])?, Status::BadChoice { index: 4 });
+    assert_eq!(rt;
+        counted(alloc, 2, &all[..5])?,
+        Status::BadChoice { index: 4 }
+    );
     assert_eq!(rt; counted(alloc, 2, &all[..4])?, Status::Cut);
     assert_eq!(rt; counted(alloc, 2, &all[..3])?, Status::Going);
     assert_eq!(rt; counted(alloc, 2, &[])?, Status::Going);
@@ -141,13 +140,22 @@ fn a_loop_fails_within_its_bound(rt: HostRuntime) -> Result<(), Fail> {
 fn a_bad_choice_is_named(rt: HostRuntime) -> Result<(), Fail> {
     let alloc = rt.alloc();
     let wrong_sort = [Short::Bits(16, 0)];
-    assert_eq!(rt; counted(alloc, 3, &wrong_sort)?, Status::BadChoice { index: 0 });
+    assert_eq!(rt;
+        counted(alloc, 3, &wrong_sort)?,
+        Status::BadChoice { index: 0 }
+    );
     let no_value = [Short::Go(0), Short::Go(0)];
-    assert_eq!(rt; counted(alloc, 3, &no_value)?, Status::BadChoice { index: 0 });
+    assert_eq!(rt;
+        counted(alloc, 3, &no_value)?,
+        Status::BadChoice { index: 0 }
+    );
     let past = [Short::Bits(8, 0), Short::Go(2)];
     assert_eq!(rt; counted(alloc, 3, &past)?, Status::BadChoice { index: 1 });
     let no_target = [Short::Bits(8, 0), Short::Bool(true)];
-    assert_eq!(rt; counted(alloc, 3, &no_target)?, Status::BadChoice { index: 1 });
+    assert_eq!(rt;
+        counted(alloc, 3, &no_target)?,
+        Status::BadChoice { index: 1 }
+    );
     let blocked = [Short::Bits(8, 0), Short::Go(1)];
     assert_eq!(rt; counted(alloc, 3, &blocked)?, Status::Blocked);
     Ok(())

@@ -1,4 +1,5 @@
 pub mod Environments
+pub mod Heads
 pub mod Naming
 pub mod Plainly
 pub mod Programs

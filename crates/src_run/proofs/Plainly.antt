@@ -22,7 +22,7 @@ use Rattle.src_prog.specs.declared.proc.SrcProc.{SrcProc}
 use Rattle.src_run.specs.declared.machine.Choice.{Choice}
 use Rattle.src_run.specs.declared.machine.Status.{Status}
 use Rattle.src_run.specs.declared.machine.Status.TheVariants.{Going, Ended, Failed, Blocked, Cut, BadChoice}
-use Rattle.src_run.specs.Machine.{Config, Frame, Store, Want, AGlobal, ALocal, AVariable, Stands, tick, bad, turn, over, within, Comes, write_all, holds, command, with_status}
+use Rattle.src_run.specs.Machine.{Config, Frame, Store, Want, AGlobal, ALocal, AVariable, Stands, tick, bad, turn, over, within, Comes, holds, command, with_status}
 use Rattle.src_run.specs.Plain.{is_without_call}
 use Rattle.src_run.specs.Running.{Leads, StandsBehind, wants_bool, at_cmd, bool_sort, bool_value, Bools, written, all_written, ending, run_of}
 use Rattle.src_run.specs.Search.{bool_choice, bool_choices}

@@ -1,5 +1,5 @@
 -- What an edge does to the loops that are open. No public clause cites it.
-use Rattle.std.specs.Prelude.{◌≡◌, ℕ, Bool, true, false, List, [], Option, None, Some}
+use Rattle.std.specs.Prelude.{◌≡◌, ℕ, nat_eq, nat_lt, Bool, true, false, if◌then◌else◌, List, [], Option, None, Some}
 use Rattle.src_prog.specs.declared.proc.SrcLoop.{SrcLoop}
 use Rattle.src_run.specs.declared.edges.Landing.{Landing}
 use Rattle.src_run.specs.declared.edges.Landing.TheVariants.{Outside, Again, Entering, Within}
@@ -15,6 +15,16 @@ way_in (Some exit) = Enter exit
 
 abbrev pub entry_is : List SrcLoop → ℕ → Option ℕ → Type 0
 entry_is loops to found = entry_of loops to ≡ way_in found
+
+-- a loop that is there has its head below the block
+abbrev pub is_below : ℕ → Option SrcLoop → Bool
+is_below to None = false
+is_below to (Some l) = nat_lt l.head to
+
+-- the loop is entered where its head is the block
+abbrev pub entry_at : ℕ → Option SrcLoop → Way
+entry_at to None = Stay
+entry_at to (Some l) = if nat_eq l.head to then Enter l.exit else Stay
 
 -- the way of an edge from a loop
 abbrev pub WayIs : Way → OpenLoop → Option Landing → Type 0

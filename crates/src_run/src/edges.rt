@@ -1,5 +1,6 @@
 //! Edges: which loops they close, enter and go round again.
-ghost use Rattle.std.specs.Prelude.{◌≡◌, ◌<◌, ℕ, List, [], ◌∷◌, IfOk, length};
+ghost use Rattle.std.specs.Prelude.{◌≡◌, ◌<◌, ◌≤◌, ◌+◌, ◌-◌, ◌/◌, ℕ, List, [], ◌∷◌, IfOk, IsTrue, length, slice_get};
+ghost use Rattle.src_prog.specs.Loops.{are_nested};
 ghost use Rattle.src_run.specs.Edges as spec;
 ghost use Rattle.src_run.specs.Machine as machine;
 ghost use Rattle.src_run.specs.Machine.{Config, Frame};
@@ -7,7 +8,7 @@ ghost use Rattle.src_run.specs.State.{StepsTo, callers_of, config_of, laps_of, t
 
 use crate::machine::Status;
 use crate::state::{OpenLoop, State, Step};
-use sqlite_items::Items;
+use sqlite_items::{Items, at};
 use src_prog::{Prog, SrcLoop};
 use std::alloc::{AllocError, Global};
 
@@ -24,20 +25,53 @@ pub enum Landing {
     Within(OpenLoop),
 }
 
-// The exit of the loop that an edge to a block enters, if it is the head of one.
-fn entered(loops: &[SrcLoop], to: u32) -> Option<u32>
-    ensures { spec.entry_is loops.now to result }
+// Whether there is a loop at a place, with its head below a block.
+fn is_below(loops: &[SrcLoop], place: usize, to: u32) -> bool
+    ensures { result ≡ spec.is_below to (slice_get loops.now place) }
 {
-    for l in loops {
-        if l.head == to {
-            return Some(l.exit);
+    match at(loops, place) {
+        Some(found) => found.head < to,
+        None => false,
+    }
+}
+
+// The place of the first loop whose head is not below a block. The loops ascend by head.
+fn place_of(loops: &[SrcLoop], to: u32) -> usize
+    requires { IsTrue (are_nested loops.now) }
+    ensures { machine.entry_of loops.now to ≡ spec.entry_at to (slice_get loops.now result) }
+{
+    let mut low = 0;
+    let mut high = loops.len();
+    while low < high {
+        let middle = low + (high - low) / 2;
+        if is_below(loops, middle, to) {
+            low = middle + 1;
+        } else {
+            high = middle;
         }
     }
-    None
+    low
+}
+
+// The exit of the loop that an edge to a block enters, if it is the head of one.
+fn entered(loops: &[SrcLoop], to: u32) -> Option<u32>
+    requires { IsTrue (are_nested loops.now) }
+    ensures { spec.entry_is loops.now to result }
+{
+    match at(loops, place_of(loops, to)) {
+        Some(found) => {
+            if found.head == to {
+                return Some(found.exit);
+            }
+            None
+        }
+        None => None,
+    }
 }
 
 // Where an edge to a block leads from this loop, or None where it leads out of it.
 fn seen_from(loops: &[SrcLoop], lap: OpenLoop, to: u32) -> Option<Landing>
+    requires { IsTrue (are_nested loops.now) }
     ensures { spec.LandsBy loops.now lap to result }
 {
     if lap.head == to {
@@ -55,6 +89,7 @@ fn seen_from(loops: &[SrcLoop], lap: OpenLoop, to: u32) -> Option<Landing>
 #[tactic(auto, using(crate::proofs::Stacked::laps_push))]
 // Closes the loops that an edge to a block leaves, and takes out the innermost one that stays open.
 fn close_left(loops: &[SrcLoop], to: u32, laps: &mut Items<OpenLoop>) -> Landing
+    requires { IsTrue (are_nested loops.now) }
     ensures { spec.ClosesTo loops.now to laps.old laps.new result }
 {
     while let Some(lap) = laps.pop() {
@@ -86,6 +121,7 @@ fn reopen(
     landing: Landing,
     laps: &mut Items<OpenLoop>,
 ) -> Result<bool, AllocError>
+    requires { IsTrue (are_nested loops.now) }
     ensures { IfOk result (λ within. spec.Reopens loops.now bound to landing laps.old laps.new within) }
 {
     match landing {
@@ -121,6 +157,7 @@ fn arrive(
     to: u32,
     state: &mut State,
 ) -> Result<Step, AllocError>
+    requires { IsTrue (are_nested loops.now) }
     ensures { IfOk result (λ step. StepsTo step state.new (machine.arrive loops.now bound (config_of state.old) (top_of state.old) (callers_of state.old) to (laps_of state.old.place.laps))) }
 {
     let landing = close_left(loops, to, &mut state.place.laps);
@@ -145,7 +182,8 @@ pub fn jump(
 ) -> Result<Step, AllocError>
     ensures { IfOk result (λ step. StepsTo step state.new (machine.jump prog.now bound (config_of state.old) (top_of state.old) (callers_of state.old) to)) }
 {
-    match prog.procs().get(state.place.proc as usize) {
+    let _consts = prog.consts();
+    match at(prog.procs(), state.place.proc as usize) {
         Some(proc) => arrive(alloc, proc.loops.as_slice(), bound, to, state),
         None => arrive(alloc, &[], bound, to, state),
     }
