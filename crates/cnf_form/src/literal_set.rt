@@ -44,6 +44,13 @@ impl LiteralSet {
         code < self.flags.len() && self.flags[code]
     }
 
+    /// The literals in the order in which they were added.
+    pub fn as_slice(&self) -> &[Lit]
+        ensures { result.now ≡ self.now }
+    {
+        self.added.as_slice()
+    }
+
     /// Adds a literal behind the others. After an error the set is as before.
     pub fn add(&mut self, lit: Lit) -> Result<(), AllocError>
         ensures ok { OnOk result (self.new ≡ self.old ++ lit ∷ []) }

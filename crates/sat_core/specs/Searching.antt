@@ -15,8 +15,8 @@ use Rattle.sat_core.specs.declared.search.Turn.TheVariants.{Onward, Satisfied, R
 abbrev pub has_variable : List ℕ → ℕ → Bool
 has_variable literals variable = list_any (λ l. l / 2 == variable) literals
 
--- the trail is what is assigned; all of it but the decisions was forced; no clause was unit or false before a decision; the variables below the cursor are assigned
-pub record IsSearch (clauses : List (List ℕ)) (assigned trail places reasons starts : List ℕ) (cursor : ℕ) : Type 0 where
+-- the trail is what is assigned; all of it but the decisions was forced; no clause was unit or false before a decision
+pub record IsSearch (clauses : List (List ℕ)) (assigned trail places reasons starts : List ℕ) : Type 0 where
   pub same : assigned ≡ trail
   pub few : length places ≤ 2 ^ 63
   pub in_range : clauses_in_range (length places) clauses ≡ true
@@ -26,10 +26,9 @@ pub record IsSearch (clauses : List (List ℕ)) (assigned trail places reasons s
   pub ascending : (i j : ℕ) → i < j → j < length starts → slice_index starts i < slice_index starts j
   pub below : (i : ℕ) → i < length starts → slice_index starts i < length trail
   pub quiet : (i : ℕ) → i < length starts → NoneSeen clauses (take (slice_index starts i) trail)
-  pub passed : (v : ℕ) → v < cursor → has_variable trail v ≡ true
 
 abbrev pub IsSearching : List (List ℕ) → List ℕ → Search → Type 0
-IsSearching clauses assigned s = IsSearch clauses assigned s.trail.items s.places.items s.reasons.items s.starts.items s.cursor
+IsSearching clauses assigned s = IsSearch clauses assigned s.trail.items s.places.items s.reasons.items s.starts.items
 
 -- the lines that were added to the clauses were added to the log
 pub record HasLearnt (before : List (List ℕ)) (old : List Line) (after : List (List ℕ)) (new : List Line) : Type 0 where
@@ -57,5 +56,5 @@ pub record GoesOn (before : List (List ℕ)) (old : Search) (after : List (List 
 -- what a turn came to: a step; an assignment of all variables under which no clause is unit or false; or an empty line that follows
 abbrev pub IsTurn : List (List ℕ) → Search → List (List ℕ) → List ℕ → Search → Turn → Type 0
 IsTurn before old after assigned new Onward = GoesOn before old after assigned new
-IsTurn before old after assigned new Satisfied = (after ≡ before) × (new ≡ old) × NoneSeen before old.trail.items × ((v : ℕ) → v < length old.places.items → has_variable old.trail.items v ≡ true)
+IsTurn before old after assigned new Satisfied = (after ≡ before) × (new.trail ≡ old.trail) × (new.places ≡ old.places) × NoneSeen before old.trail.items × ((v : ℕ) → v < length old.places.items → has_variable old.trail.items v ≡ true)
 IsTurn before old after assigned new (Refuted line) = (after ≡ before) × (new.lines ≡ old.lines) × (line.clause ≡ []) × (follows before line ≡ true)

@@ -2,6 +2,7 @@
 #![tactic(auto)]
 
 pub mod learn;
+mod order;
 pub mod outcome;
 pub mod scan;
 mod search;

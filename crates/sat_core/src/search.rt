@@ -9,6 +9,7 @@ ghost use Rattle.sat_core.specs.Answer.{IsExtended};
 ghost use Rattle.sat_core.specs.Searching.{has_variable, IsSearching, GoesOn, IsTurn};
 
 use crate::learn::{analyze, refuting_line};
+use crate::order::Order;
 use cnf_form::{ClauseStore, Line, Lines, Lit, LiteralSet, Seen};
 use std::alloc::{AllocError, Global};
 
@@ -36,8 +37,8 @@ pub(crate) struct Search {
     reasons: Vec<usize>,
     /// By level, less one, the place of its decision.
     starts: Vec<usize>,
-    /// No variable below it is free.
-    cursor: usize,
+    /// Which variable is decided.
+    order: Order,
     /// Working memory of the analysis.
     marks: LiteralSet,
     /// The learnt lines.
@@ -59,7 +60,7 @@ impl Search {
             places: vec![in alloc; 0; variables]?,
             reasons: Vec::new(alloc),
             starts: Vec::new(alloc),
-            cursor: 0,
+            order: Order::new(alloc, variables)?,
             marks: LiteralSet::new(alloc),
             lines: Lines::new(alloc),
         })
@@ -75,15 +76,35 @@ impl Search {
         place < self.trail.len() && self.trail[place].variable() == variable
     }
 
+    /// The free variable of the greatest activity, or the number of variables where none is free,
+    /// which a look at each variable has shown. No proof rests on the order.
+    fn next_free(&mut self) -> usize
+        requires placed { IsPlaced self.old.trail.items self.old.places.items }
+        ensures within { result ≤ length self.old.places.items }
+        ensures free { result < length self.old.places.items → has_variable self.old.trail.items result ≡ false }
+        ensures taken { result ≡ length self.old.places.items → (v : ℕ) → v < length self.old.places.items → has_variable self.old.trail.items v ≡ true }
+        ensures trail { self.new.trail ≡ self.old.trail }
+        ensures places { self.new.places ≡ self.old.places }
+        ensures reasons { self.new.reasons ≡ self.old.reasons }
+        ensures starts { self.new.starts ≡ self.old.starts }
+        ensures lines { self.new.lines ≡ self.old.lines }
+    {
+        while let Some(variable) = self.order.pop() {
+            if variable < self.places.len() && !self.is_assigned(variable) {
+                return variable;
+            }
+        }
+        self.least_free()
+    }
+
     /// The least free variable, or the number of variables.
     fn least_free(&self) -> usize
         requires placed { IsPlaced self.now.trail.items self.now.places.items }
-        requires passed { (v : ℕ) → v < self.now.cursor → has_variable self.now.trail.items v ≡ true }
         ensures within { result ≤ length self.now.places.items }
         ensures taken { (v : ℕ) → v < result → has_variable self.now.trail.items v ≡ true }
         ensures free { result < length self.now.places.items → has_variable self.now.trail.items result ≡ false }
     {
-        for variable in self.cursor..self.places.len() {
+        for variable in 0..self.places.len() {
             if !self.is_assigned(variable) {
                 return variable;
             }
@@ -106,7 +127,6 @@ impl Search {
         ensures places { OnOk result (self.new.places.items ≡ slice_set self.old.places.items (lit / 2) (length self.old.trail.items)) }
         ensures reasons { OnOk result (self.new.reasons.items ≡ self.old.reasons.items ++ reason ∷ []) }
         ensures starts { self.new.starts ≡ self.old.starts }
-        ensures cursor { self.new.cursor ≡ self.old.cursor }
         ensures lines { self.new.lines ≡ self.old.lines }
         ensures clauses { S.clauses store.new ≡ S.clauses store.old }
     {
@@ -145,7 +165,6 @@ impl Search {
         requires quiet { NoneSeen (S.clauses store.old) self.old.trail.items }
         requires variable { variable < length self.old.places.items }
         requires free { has_variable self.old.trail.items variable ≡ false }
-        requires taken { (v : ℕ) → v < variable → has_variable self.old.trail.items v ≡ true }
         ensures searching { OnOk result (IsSearching (S.clauses store.new) (S.assigned store.new) self.new) }
         ensures longer { OnOk result (length self.new.trail.items ≡ length self.old.trail.items + 1) }
         ensures sized { OnOk result (length self.new.places.items ≡ length self.old.places.items) }
@@ -155,7 +174,6 @@ impl Search {
     {
         self.starts.push(self.trail.len())?;
         self.put(store, Lit::negative(variable), 0)?;
-        self.cursor = variable + 1;
         Ok(())
     }
 
@@ -192,11 +210,9 @@ impl Search {
         level
     }
 
-    /// Frees the variables of the literals behind the first ones.
-    fn take_back(&mut self, count: usize)
-        requires { (v : ℕ) → v < self.old.cursor → has_variable self.old.trail.items v ≡ true }
-        ensures trail { self.new.trail.items ≡ take count self.old.trail.items }
-        ensures passed { (v : ℕ) → v < self.new.cursor → has_variable self.new.trail.items v ≡ true }
+    /// Frees the variables of the literals behind the first ones. After an error some are free.
+    fn take_back(&mut self, count: usize) -> Result<(), AllocError>
+        ensures trail { OnOk result (self.new.trail.items ≡ take count self.old.trail.items) }
         ensures places { self.new.places ≡ self.old.places }
         ensures reasons { self.new.reasons ≡ self.old.reasons }
         ensures starts { self.new.starts ≡ self.old.starts }
@@ -204,27 +220,30 @@ impl Search {
     {
         while count < self.trail.len() {
             let last = self.trail.len() - 1;
-            self.cursor = self.cursor.min(self.trail[last].variable());
+            self.order.enter(self.trail[last].variable())?;
             self.trail.truncate(last);
         }
+        Ok(())
     }
 
     /// Goes back to the level: takes back the decision behind it and all that was assigned since.
-    fn go_back<S: ClauseStore>(&mut self, store: &mut S, level: usize)
+    /// After an error the store still has the literals that were taken back.
+    fn go_back<S: ClauseStore>(&mut self, store: &mut S, level: usize) -> Result<(), AllocError>
         requires searching { IsSearching (S.clauses store.old) (S.assigned store.old) self.old }
         requires level { level < length self.old.starts.items }
-        ensures searching { IsSearching (S.clauses store.new) (S.assigned store.new) self.new }
-        ensures trail { self.new.trail.items ≡ take (slice_index self.old.starts.items level) self.old.trail.items }
-        ensures starts { self.new.starts.items ≡ take level self.old.starts.items }
+        ensures searching { OnOk result (IsSearching (S.clauses store.new) (S.assigned store.new) self.new) }
+        ensures trail { OnOk result (self.new.trail.items ≡ take (slice_index self.old.starts.items level) self.old.trail.items) }
+        ensures starts { OnOk result (self.new.starts.items ≡ take level self.old.starts.items) }
         ensures places { self.new.places ≡ self.old.places }
         ensures lines { self.new.lines ≡ self.old.lines }
         ensures clauses { S.clauses store.new ≡ S.clauses store.old }
     {
         let count = self.starts[level];
         self.starts.truncate(level);
-        self.take_back(count);
+        self.take_back(count)?;
         self.reasons.truncate(count);
         store.cut_to(count);
+        Ok(())
     }
 
     /// Adds a line to the log and its clause to the store, and answers the clause's number.
@@ -282,7 +301,6 @@ impl Search {
         ensures places { self.new.places ≡ self.old.places }
         ensures reasons { self.new.reasons ≡ self.old.reasons }
         ensures starts { self.new.starts ≡ self.old.starts }
-        ensures cursor { self.new.cursor ≡ self.old.cursor }
         ensures lines { self.new.lines ≡ self.old.lines }
     {
         let start = self.starts[self.starts.len() - 1];
@@ -344,7 +362,8 @@ impl Search {
         };
         let lit = *last;
         let level = self.level_of(rest);
-        self.go_back(store, level);
+        self.order.raise(self.marks.as_slice());
+        self.go_back(store, level)?;
         let id = self.add(alloc, store, line)?;
         self.propagate(store, lit, id)?;
         Ok(())
@@ -376,7 +395,7 @@ impl Search {
                 Ok(Turn::Onward)
             }
             Seen::Nothing => {
-                let variable = self.least_free();
+                let variable = self.next_free();
                 if variable == self.places.len() {
                     return Ok(Turn::Satisfied);
                 }

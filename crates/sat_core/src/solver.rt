@@ -36,9 +36,11 @@ fn run<S: ClauseStore>(alloc: Global, variables: usize, store: &mut S) -> Result
 /// Decides whether some truth values of the variables from 0 up to `variables`, which is not among
 /// them, make every clause of the store true: by conflict-driven clause learning.
 ///
-/// It propagates to the end before it decides, decides the least free variable, false first,
-/// learns at the first unique implication point, and goes back to the second highest level of the
-/// learnt line. It deletes no clause and never restarts.
+/// It propagates to the end before it decides, decides the free variable of the greatest activity,
+/// the least among equals, false first, learns at the first unique implication point, and goes
+/// back to the second highest level of the learnt line. A variable becomes more active when it
+/// takes part in a conflict, that is, in a clause of the learnt line's hints, and the later the
+/// conflict, the more. It deletes no clause and never restarts.
 ///
 /// `Sat` has one truth value per variable, and `Unsat` a log that refutes the clauses that the
 /// store had. `NoMemory` comes where an allocation fails, also in the store, and where there are

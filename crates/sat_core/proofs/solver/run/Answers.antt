@@ -36,11 +36,11 @@ returns-in-Satisfied-clause-answer g c =
     let i = c.search.invariant in
     let end = rw c.in-Satisfied.is at c.in_ok-turn.ensures.turn in
     let v = c.in_ok-values-in-Satisfied.values.items in
-    let len = rw end.1 at c.in_ok-values-in-Satisfied.ensures.len in
-    let at = rw end.1 at c.in_ok-values-in-Satisfied.ensures.values in
-    let none : NoneSeen a s.trail.items = λ id d e. end.2 id d (subst (λ (ds : List (List ℕ)). slice_get ds id ≡ Some d) (sym i.learnt.added.clauses) (get_more a (clauses_of i.learnt.more) id d e)) in
+    let len = rw end.2 at c.in_ok-values-in-Satisfied.ensures.len in
+    let at = rw (end.1, end.2) at c.in_ok-values-in-Satisfied.ensures.values in
+    let none : NoneSeen a s.trail.items = λ id d e. end.3 id d (subst (λ (ds : List (List ℕ)). slice_get ds id ≡ Some d) (sym i.learnt.added.clauses) (get_more a (clauses_of i.learnt.more) id d e)) in
     let range : clauses_in_range (length s.places.items) a ≡ true = rw i.sized c.requires.in_range in
-    (len ∙ i.sized, all_satisfied v s.trail.items (length s.places.items) (placed_consistent s.trail.items s.places.items i.searching.placed) at a range none end.3)
+    (len ∙ i.sized, all_satisfied v s.trail.items (length s.places.items) (placed_consistent s.trail.items s.places.items i.searching.placed) at a range none end.4)
 
 pub returns-in-Refuted-clause-answer : goal.returns-in-Refuted-clause-answer
 returns-in-Refuted-clause-answer g c =

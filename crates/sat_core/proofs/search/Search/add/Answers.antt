@@ -6,7 +6,7 @@ returns-clause-searching g c =
     let cs = g.S.ClauseStore.clauses c.args.store.now in
     let ls = g.S.ClauseStore.assigned c.args.store.now in
     let s = c.args.self.now in
-    let next = search_added cs ls s.trail.items s.places.items s.reasons.items s.starts.items s.cursor c.requires.searching c.args.line.clause c.requires.in_range c.requires.quiet in
+    let next = search_added cs ls s.trail.items s.places.items s.reasons.items s.starts.items c.requires.searching c.args.line.clause c.requires.in_range c.requires.quiet in
     rw (c.in_ok-id.ensures.ok, c.in_ok-id.ensures.assigned, c.in_ok-clause.ensures) next
 
 pub returns-clause-id : goal.returns-clause-id

@@ -18,13 +18,13 @@ add-requires-clause-in_range g c =
     let t = n.trail.items in
     let pl = n.places.items in
     let st = n.starts.items in
-    let k : IsSearch cs ls t pl n.reasons.items st n.cursor = rw (f.trail, f.places, f.reasons, f.starts, f.cursor) c.requires.searching in
+    let k : IsSearch cs ls t pl n.reasons.items st = rw (f.trail, f.places, f.reasons, f.starts) c.requires.searching in
     let start = get_or st (length st - 1) 0 in
     let learnt : IsLearnt cs t start line = rw (f.trail, f.starts) f.learnt in
     let rest = c.in-Some.rest.now in
     let lit = c.in-Some.last.now in
     let ends : line.clause ≡ rest ++ lit ∷ [] = sym c.as_slice.ensures ∙ c.in-Some.ensures.cases.0 in
-    rw c.go_back.ensures.places (learnt_range cs ls t pl n.reasons.items st n.cursor k start line learnt rest lit ends)
+    rw c.in_ok-go_back.ensures.places (learnt_range cs ls t pl n.reasons.items st k start line learnt rest lit ends)
 
 pub add-requires-clause-quiet : goal.add-requires-clause-quiet
 add-requires-clause-quiet g c =
@@ -36,7 +36,7 @@ add-requires-clause-quiet g c =
     let t = n.trail.items in
     let pl = n.places.items in
     let st = n.starts.items in
-    let k : IsSearch cs ls t pl n.reasons.items st n.cursor = rw (f.trail, f.places, f.reasons, f.starts, f.cursor) c.requires.searching in
+    let k : IsSearch cs ls t pl n.reasons.items st = rw (f.trail, f.places, f.reasons, f.starts) c.requires.searching in
     let start = get_or st (length st - 1) 0 in
     let learnt : IsLearnt cs t start line = rw (f.trail, f.starts) f.learnt in
     let rest = c.in-Some.rest.now in
@@ -45,7 +45,7 @@ add-requires-clause-quiet g c =
     let level = c.level_of-level.result in
     let v = c.level_of-level.ensures in
     let last : get_or st level 0 ≤ start = start_last st k.ascending level v.within in
-    rw (c.go_back.ensures.starts, c.go_back.ensures.trail) (learnt_quiet cs ls t pl n.reasons.items st n.cursor k start line learnt rest lit ends level v.within last v.holds v.least)
+    rw (c.in_ok-go_back.ensures.starts, c.in_ok-go_back.ensures.trail) (learnt_quiet cs ls t pl n.reasons.items st k start line learnt rest lit ends level v.within last v.holds v.least)
 
 pub propagate-requires-clause-free : goal.propagate-requires-clause-free
 propagate-requires-clause-free g c =
@@ -57,7 +57,7 @@ propagate-requires-clause-free g c =
     let t = n.trail.items in
     let pl = n.places.items in
     let st = n.starts.items in
-    let k : IsSearch cs ls t pl n.reasons.items st n.cursor = rw (f.trail, f.places, f.reasons, f.starts, f.cursor) c.requires.searching in
+    let k : IsSearch cs ls t pl n.reasons.items st = rw (f.trail, f.places, f.reasons, f.starts) c.requires.searching in
     let start = get_or st (length st - 1) 0 in
     let learnt : IsLearnt cs t start line = rw (f.trail, f.starts) f.learnt in
     let rest = c.in-Some.rest.now in
@@ -66,7 +66,7 @@ propagate-requires-clause-free g c =
     let level = c.level_of-level.result in
     let v = c.level_of-level.ensures in
     let last : get_or st level 0 ≤ start = start_last st k.ascending level v.within in
-    rw (c.in_ok-id.ensures.trail, c.go_back.ensures.trail) (learnt_free cs ls t pl n.reasons.items st n.cursor k start line learnt rest lit ends level v.within last v.holds v.least)
+    rw (c.in_ok-id.ensures.trail, c.in_ok-go_back.ensures.trail) (learnt_free cs ls t pl n.reasons.items st k start line learnt rest lit ends level v.within last v.holds v.least)
 
 pub propagate-requires-clause-variable : goal.propagate-requires-clause-variable
 propagate-requires-clause-variable g c =
@@ -78,13 +78,13 @@ propagate-requires-clause-variable g c =
     let t = n.trail.items in
     let pl = n.places.items in
     let st = n.starts.items in
-    let k : IsSearch cs ls t pl n.reasons.items st n.cursor = rw (f.trail, f.places, f.reasons, f.starts, f.cursor) c.requires.searching in
+    let k : IsSearch cs ls t pl n.reasons.items st = rw (f.trail, f.places, f.reasons, f.starts) c.requires.searching in
     let start = get_or st (length st - 1) 0 in
     let learnt : IsLearnt cs t start line = rw (f.trail, f.starts) f.learnt in
     let rest = c.in-Some.rest.now in
     let lit = c.in-Some.last.now in
     let ends : line.clause ≡ rest ++ lit ∷ [] = sym c.as_slice.ensures ∙ c.in-Some.ensures.cases.0 in
-    rw (c.in_ok-id.ensures.places, c.go_back.ensures.places) (learnt_variable cs ls t pl n.reasons.items st n.cursor k start line learnt rest lit ends)
+    rw (c.in_ok-id.ensures.places, c.in_ok-go_back.ensures.places) (learnt_variable cs ls t pl n.reasons.items st k start line learnt rest lit ends)
 
 pub propagate-requires-clause-forced : goal.propagate-requires-clause-forced
 propagate-requires-clause-forced g c =
@@ -96,7 +96,7 @@ propagate-requires-clause-forced g c =
     let t = n.trail.items in
     let pl = n.places.items in
     let st = n.starts.items in
-    let k : IsSearch cs ls t pl n.reasons.items st n.cursor = rw (f.trail, f.places, f.reasons, f.starts, f.cursor) c.requires.searching in
+    let k : IsSearch cs ls t pl n.reasons.items st = rw (f.trail, f.places, f.reasons, f.starts) c.requires.searching in
     let start = get_or st (length st - 1) 0 in
     let learnt : IsLearnt cs t start line = rw (f.trail, f.starts) f.learnt in
     let rest = c.in-Some.rest.now in
@@ -105,21 +105,21 @@ propagate-requires-clause-forced g c =
     let level = c.level_of-level.result in
     let v = c.level_of-level.ensures in
     let last : get_or st level 0 ≤ start = start_last st k.ascending level v.within in
-    rw (c.in_ok-id.ensures.trail, c.go_back.ensures.trail) (learnt_forces cs ls t pl n.reasons.items st n.cursor k start line learnt rest lit ends level v.within last v.holds v.least (g.S.ClauseStore.clauses c.add.new.store) c.in_ok-id.id c.in_ok-id.ensures.id)
+    rw (c.in_ok-id.ensures.trail, c.in_ok-go_back.ensures.trail) (learnt_forces cs ls t pl n.reasons.items st k start line learnt rest lit ends level v.within last v.holds v.least (g.S.ClauseStore.clauses c.add.new.store) c.in_ok-id.id c.in_ok-id.ensures.id)
 
 pub returns-in_err-propagate-clause-extended : goal.returns-in_err-propagate-clause-extended
 returns-in_err-propagate-clause-extended g c =
     let cs = g.S.ClauseStore.clauses c.args.store.now in
     let line = c.in_ok-line.line in
     let f = c.in_ok-line.ensures in
-    rw (c.propagate.ensures.clauses, c.in_ok-id.ensures.clauses, c.go_back.ensures.clauses) (line ∷ [], added_one cs line f.learnt.derived f.learnt.new)
+    rw (c.propagate.ensures.clauses, c.in_ok-id.ensures.clauses, c.in_ok-go_back.ensures.clauses) (line ∷ [], added_one cs line f.learnt.derived f.learnt.new)
 
 pub returns-clause-extended : goal.returns-clause-extended
 returns-clause-extended g c =
     let cs = g.S.ClauseStore.clauses c.args.store.now in
     let line = c.in_ok-line.line in
     let f = c.in_ok-line.ensures in
-    rw (c.propagate.ensures.clauses, c.in_ok-id.ensures.clauses, c.go_back.ensures.clauses) (line ∷ [], added_one cs line f.learnt.derived f.learnt.new)
+    rw (c.propagate.ensures.clauses, c.in_ok-id.ensures.clauses, c.in_ok-go_back.ensures.clauses) (line ∷ [], added_one cs line f.learnt.derived f.learnt.new)
 
 pub returns-clause-onward : goal.returns-clause-onward
 returns-clause-onward g c =
@@ -136,12 +136,12 @@ returns-clause-onward g c =
     let q = c.propagate.new.self in
     let count : length (take (get_or st level 0) s.trail.items) ≡ get_or st level 0 = let b = k.below level within in length-take-le (get_or st level 0) s.trail.items (omega (arith, b)) in
     let one : HasLearnt cs s.lines (cs ++ line.clause ∷ []) (s.lines ++ line ∷ []) = record { more = line ∷ []; log = refl; added = added_one cs line f.learnt.derived f.learnt.new } in
-    let sized : length q.places.items ≡ length s.places.items = rw (p.sized, c.in_ok-id.ensures.places, c.go_back.ensures.places, f.places) refl in
-    let starts : q.starts.items ≡ take level st = rw (p.starts, c.in_ok-id.ensures.starts, c.go_back.ensures.starts, f.starts) refl in
-    let longer : length q.trail.items ≡ get_or st level 0 + 1 = rw (p.longer, c.in_ok-id.ensures.trail, c.go_back.ensures.trail, f.starts, f.trail, count) refl in
+    let sized : length q.places.items ≡ length s.places.items = rw (p.sized, c.in_ok-id.ensures.places, c.in_ok-go_back.ensures.places, f.places) refl in
+    let starts : q.starts.items ≡ take level st = rw (p.starts, c.in_ok-id.ensures.starts, c.in_ok-go_back.ensures.starts, f.starts) refl in
+    let longer : length q.trail.items ≡ get_or st level 0 + 1 = rw (p.longer, c.in_ok-id.ensures.trail, c.in_ok-go_back.ensures.trail, f.starts, f.trail, count) refl in
     record {
       searching = p.searching;
       sized = sized;
-      learnt = rw (p.clauses, c.in_ok-id.ensures.clauses, c.go_back.ensures.clauses, p.lines, c.in_ok-id.ensures.lines, c.go_back.ensures.lines, f.lines) one;
-      less = rw (sized, starts, longer) (goes_back cs ls s.trail.items s.places.items s.reasons.items st s.cursor k level within);
+      learnt = rw (p.clauses, c.in_ok-id.ensures.clauses, c.in_ok-go_back.ensures.clauses, p.lines, c.in_ok-id.ensures.lines, c.in_ok-go_back.ensures.lines, f.lines) one;
+      less = rw (sized, starts, longer) (goes_back cs ls s.trail.items s.places.items s.reasons.items st k level within);
     }

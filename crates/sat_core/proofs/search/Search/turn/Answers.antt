@@ -1,4 +1,4 @@
-use Rattle.std.proofs.Common.{◌≡◌, ℕ, List, ◌/◌, ◌<◌, length, rules, arith, subst}
+use Rattle.std.proofs.Common.{◌≡◌, ℕ, List, ◌/◌, ◌<◌, length, rules, arith, subst, refl}
 use Rattle.cnf_form.specs.Store.{LooksAt}
 use Rattle.cnf_form.specs.declared.look.Look.TheVariants as says
 use Rattle.sat_core.proofs.Extending.{learnt_none}
@@ -75,7 +75,7 @@ returns-in_ok-propagate-in-Unit-clause-turn g c =
       searching = p.searching;
       sized = p.sized;
       learnt = rw (p.clauses, c.next.ensures.clauses, p.lines) (learnt_none cs s.lines);
-      less = rw (p.sized, p.starts, p.longer) (goes_longer cs ls t pl s.reasons.items s.starts.items s.cursor c.requires room);
+      less = rw (p.sized, p.starts, p.longer) (goes_longer cs ls t pl s.reasons.items s.starts.items c.requires room);
     }
 
 pub returns-in_ok-decide-in-Nothing-clause-turn : goal.returns-in_ok-decide-in-Nothing-clause-turn
@@ -86,13 +86,14 @@ returns-in_ok-decide-in-Nothing-clause-turn g c =
     let t = s.trail.items in
     let pl = s.places.items in
     let p = c.in_ok-decide-in-Nothing.ensures in
-    let v = c.least_free-variable.result in
+    let n = c.next_free-variable.ensures in
+    let v = c.next_free-variable.result in
     let len : c.len.result ≡ length pl = search rules in
-    let within : v < length pl = omega (arith, len, c.least_free-variable.ensures.within, c.if-variable-len.false) in
-    let room = placed_room t pl c.requires.placed v (c.least_free-variable.ensures.free within) within in
+    let within : v < length pl = omega (arith, len, n.within, c.if-variable-len.false) in
+    let room = placed_room t pl c.requires.placed v (n.free within) within in
     record {
       searching = p.searching;
-      sized = p.sized;
-      learnt = rw (p.clauses, c.next.ensures.clauses, p.lines) (learnt_none cs s.lines);
-      less = rw (p.sized, p.starts, p.longer) (goes_deeper cs ls t pl s.reasons.items s.starts.items s.cursor c.requires room);
+      sized = rw (p.sized, n.places) refl;
+      learnt = rw (p.clauses, c.next.ensures.clauses, p.lines, n.lines) (learnt_none cs s.lines);
+      less = rw (p.sized, p.starts, p.longer, n.trail, n.places, n.starts) (goes_deeper cs ls t pl s.reasons.items s.starts.items c.requires room);
     }
