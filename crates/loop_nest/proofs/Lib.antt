@@ -1,0 +1,5 @@
+pub mod WalkLaws
+pub mod ListLaws
+pub mod Fitting
+pub mod Members
+pub mod NestLaws

@@ -1,0 +1,4 @@
+pub mod Reached
+pub mod Nests
+pub mod Walks
+pub mod Listed
