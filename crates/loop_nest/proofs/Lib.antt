@@ -3,3 +3,4 @@ pub mod ListLaws
 pub mod Fitting
 pub mod Members
 pub mod NestLaws
+pub mod Entering

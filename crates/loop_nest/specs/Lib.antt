@@ -1,4 +1,5 @@
 pub mod Reached
 pub mod Nests
+pub mod Laws
 pub mod Walks
 pub mod Listed
