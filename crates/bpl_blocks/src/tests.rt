@@ -1,4 +1,4 @@
-//! Programs with loops, branches, recursion and calls, and their blocks.
+//! Programs with loops, branches, recursion and calls, their blocks and their loops.
 
 ghost use Rattle.std.specs.Prelude.{IsTrue};
 ghost use Rattle.bpl_type.specs.WellTyped.{is_typed};
@@ -8,7 +8,9 @@ use bpl_flow::lower;
 use bpl_parse::parse;
 use bpl_tok::tokens;
 use bpl_type::{Typed, check, checked_programs_are_typed};
+use hy_text::Text;
 use hy_val::{Expr, ExprNode};
+use loop_nest::{Loop, nest};
 use src_prog::{Cmd, Next, Prog, SrcBlock, SrcProc};
 use std::alloc::{AllocError, Global};
 use std::test::Fail;
@@ -152,5 +154,99 @@ fn a_driver_becomes_six_procedures(rt: HostRuntime) -> Result<(), Fail> {
         shown.as_str(),
         "0: a1 := return\n0: a1 := return\n0: havoc := return\n0: call 0 := -> 1 2\n1: e call 1 -> 3\n2: e! -> 3\n3: call 1 return\n0: := -> 1\n1: -> 2 3\n2: e := call 3 := -> 1\n3: e! return\n1..3\n0: e := := := call 2 e call 4 a1 return\n"
     );
+    Ok(())
+}
+
+// The head of a loop, its blocks, and `in` with the place of the loop around it.
+fn show_loop(alloc: Global, text: &mut String, shown: &Loop) -> Result<(), AllocError> {
+    text.push_str(&format!(in alloc; "{}:", shown.head)?)?;
+    for block in shown.blocks.as_slice() {
+        text.push_str(&format!(in alloc; " {block}")?)?;
+    }
+    if let Some(outer) = shown.outer {
+        text.push_str(&format!(in alloc; " in {outer}")?)?;
+    }
+    text.push_str("\n")
+}
+
+// The loops of the procedure of this name.
+fn loops(alloc: Global, text: &[u8], name: &str) -> Result<String, AllocError> {
+    let prog = program(alloc, text)?;
+    let Some(number) = prog.find(&Text::from_str(alloc, name)?) else {
+        return Err(AllocError);
+    };
+    let found = nest(alloc, &prog, number)?;
+    let mut shown = String::new(alloc);
+    for one in found.loops() {
+        show_loop(alloc, &mut shown, one)?;
+    }
+    Ok(shown)
+}
+
+// Each with its loops, as they stand by the rules of flow.
+const LOOPS: [(&[u8], &str, &str); 15] = [
+    (COUNTED, "main", "1: 1 2\n"),
+    (RECURSIVE, "p", "1: 1 2 3 4 5\n"),
+    (RECURSIVE, "main", ""),
+    (NESTED, "main", "1: 1 2 3 4 5\n3: 3 4 in 0\n"),
+    (DRIVER, "handle", "1: 1 2\n"),
+    (DRIVER, "irq", ""),
+    // three loops, each in the one before
+    (
+        b"procedure main() { while (*) { while (*) { while (*) { } } } }",
+        "main",
+        "1: 1 2 3 4 5 6 7 8\n3: 3 4 5 6 7 in 0\n5: 5 6 in 1\n",
+    ),
+    // two loops side by side in a third one
+    (
+        b"procedure main() { while (*) { while (*) { } while (*) { } } }",
+        "main",
+        "1: 1 2 3 4 5 6 7 8\n3: 3 4 in 0\n6: 6 7 in 0\n",
+    ),
+    // a loop behind two that end at once
+    (
+        b"procedure main() { while (*) { while (*) { while (*) { } } while (*) { } } }",
+        "main",
+        "1: 1 2 3 4 5 6 7 8 9 10 11\n3: 3 4 5 6 7 in 0\n5: 5 6 in 1\n9: 9 10 in 0\n",
+    ),
+    // a loop without a back edge
+    (
+        b"procedure main() { while (*) { return; } }",
+        "main",
+        "1: 1 2\n",
+    ),
+    // a block of the loop that is not reached
+    (
+        b"procedure main() { while (*) { return; assert false; } }",
+        "main",
+        "1: 1 2\n",
+    ),
+    // loops that are not reached
+    (b"procedure main() { return; while (*) { } }", "main", ""),
+    (
+        b"procedure main() { goto out; while (*) { while (*) { } } out: return; }",
+        "main",
+        "",
+    ),
+    // a loop that holds one that is not reached and one that is
+    (
+        b"procedure main() { while (*) { goto on; while (*) { } on: while (*) { } } }",
+        "main",
+        "1: 1 2 7 8 9 10\n8: 8 9 in 0\n",
+    ),
+    // a loop that only the last target reaches
+    (
+        b"procedure main() { goto a, b; a: return; b: while (*) { } }",
+        "main",
+        "3: 3 4\n",
+    ),
+];
+
+#[test]
+fn loops_have_their_reached_blocks(rt: HostRuntime) -> Result<(), Fail> {
+    for (text, name, want) in LOOPS {
+        let shown = loops(rt.alloc(), text, name)?;
+        assert_eq!(rt; shown.as_str(), want);
+    }
     Ok(())
 }

@@ -1,11 +1,11 @@
 -- The laws of the loops of a procedure, from what they are.
-use Rattle.std.proofs.Common.{◌≡◌, ◌≢◌, ℕ, zero, suc, ◌+◌, ◌<◌, ◌≤◌, Bool, true, false, List, [], ◌∷◌, length, map, get_or, ◌⊎◌, inl, inr, Option, Some, None, refl, sym, ◌∙◌, ap, subst, arith, nat_lt, nat_eq}
+use Rattle.std.proofs.Common.{◌≡◌, ℕ, suc, ◌+◌, ◌<◌, ◌≤◌, Bool, true, false, List, [], ◌∷◌, length, get_or, ◌⊎◌, inl, inr, Option, Some, None, refl, sym, ◌∙◌, ap, subst, arith, nat_lt}
 use Rattle.std.proofs.lemmas.Bool.Decides.{nat_tests}
 use Rattle.std.proofs.lemmas.List.{length-map, get_or-map, get_or_default, same_lists}
-use Rattle.std.proofs.lemmas.List.Elements.{All-contains, All-contains_itself}
+use Rattle.std.proofs.lemmas.List.Elements.{All-contains}
 use Rattle.std.proofs.lemmas.List.Kept.{AllPairs-from_increasing}
-use Rattle.std.proofs.lemmas.Option.{slice_get-get_or, slice_get_within, get_or_from_slice_get}
-use Rattle.std.specs.List.{All, AllPairs, Any, Contains, slice_get}
+use Rattle.std.proofs.lemmas.Option.{slice_get-get_or}
+use Rattle.std.specs.List.{AllPairs, Contains, slice_get}
 use Rattle.std.specs.List.Sorted.{IsStrictlyIncreasing}
 use Rattle.src_prog.specs.Loops.{holds_block}
 use Rattle.src_prog.specs.declared.block.SrcBlock.{SrcBlock}
@@ -17,8 +17,8 @@ use Rattle.loop_nest.specs.Laws.ReachedWithout.{entry, edge}
 use Rattle.loop_nest.specs.Nests.{IsLoop, heads, blocks_from, blocks_at, IsAround, IsInnermost, IsNest}
 use Rattle.loop_nest.specs.Reached.{targets, Reached}
 use Rattle.loop_nest.specs.Reached.Reached.{entry as at-entry, edge as one-more}
-use Rattle.loop_nest.proofs.Fitting.{IsWithin, AreApart, LoopsFit, loops-fit, Edge, ProcFits, proc-of}
-use Rattle.loop_nest.proofs.Members.{none-in, in-head, in-tail, head-or-tail, in-map}
+use Rattle.loop_nest.proofs.Fitting.{IsWithin, AreApart, loops-fit, ProcFits, proc-of}
+use Rattle.loop_nest.proofs.Members.{none-in, in-head, in-tail, head-or-tail}
 use Rattle.loop_nest.proofs.NestLaws.{holds-true, holds-order}
 
 facts : (proc : SrcProc) (loops : List Loop) → HasNest proc loops → ProcFits proc
@@ -264,7 +264,7 @@ alike proc one other fits a b =
     let q = length-map other (λ (m : Loop). m.head) in
     let size : length one ≡ length other = omega (arith, ap length e) in
     let head : (i : ℕ) (d : Loop) → i < length one → (get_or one i d).head ≡ (get_or other i d).head = λ i d lt.
-            sym (get_or-map (λ (m : Loop). m.head) one i d 0 lt) ∙ ap (λ (ns : List ℕ). get_or ns i 0) e ∙ get_or-map (λ (m : Loop). m.head) other i d 0 (omega arith) in
+    sym (get_or-map (λ (m : Loop). m.head) one i d 0 lt) ∙ ap (λ (ns : List ℕ). get_or ns i 0) e ∙ get_or-map (λ (m : Loop). m.head) other i d 0 (omega arith) in
     record {
       size = size;
       head = head;

@@ -1,10 +1,10 @@
 -- The lists that the loops are made of, one step on.
-use Rattle.std.proofs.Common.{◌≡◌, ℕ, zero, suc, ◌+◌, ◌-◌, ◌<◌, ◌≤◌, min, Bool, true, false, cond, List, [], ◌∷◌, ◌++◌, length, take, drop, get_or, ◌⊎◌, inl, inr, Option, Some, None, Result, Ok, Err, refl, sym, ◌∙◌, ap, subst, arith, append_assoc, length-append, true≢false, if◌then◌else◌, nat_lt}
+use Rattle.std.proofs.Common.{◌≡◌, ℕ, suc, ◌+◌, ◌-◌, ◌<◌, ◌≤◌, Bool, true, false, cond, List, [], ◌∷◌, ◌++◌, length, take, drop, get_or, Option, Some, None, Result, Ok, Err, refl, sym, ◌∙◌, ap, subst, arith, append_assoc, length-append, if◌then◌else◌, nat_lt}
 use Rattle.std.proofs.lemmas.Bool.Decides.{nat_tests}
-use Rattle.std.proofs.lemmas.List.{append-nil, length_push, take_more, take_all, take_at, drop_at, take-append-le, take-append-drop, length-take-le, length-drop, take-take, get_or_append_left, get_or_push, get_or-take, get_or_default}
-use Rattle.std.proofs.lemmas.List.Elements.{All-push, All-take, filter_more, filter-append}
+use Rattle.std.proofs.lemmas.List.{append-nil, length_push, take_more, take_all, take_at, drop_at, take-append-drop, length-take-le, length-drop, take-take, get_or_append_left, get_or_push, get_or-take, get_or_default}
+use Rattle.std.proofs.lemmas.List.Elements.{filter-append}
 use Rattle.std.proofs.lemmas.List.Folds.{drop_split}
-use Rattle.std.specs.List.{All, AllPairs, filter, slice_get, slice_range}
+use Rattle.std.specs.List.{All, AllPairs, slice_get, slice_range}
 use Rattle.std.specs.Result.{IfOk, OnOk}
 use Rattle.std.proofs.lemmas.Option.{slice_get_within, get_or_from_slice_get}
 use Rattle.src_prog.specs.declared.proc.SrcLoop.{SrcLoop}

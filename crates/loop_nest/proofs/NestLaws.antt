@@ -1,12 +1,12 @@
 -- The loops that are made are those of the procedure: each holds its reached blocks, and the last one before it that ends behind its head is the
 -- innermost around it, since loops are apart or nested.
-use Rattle.std.proofs.Common.{◌≡◌, ◌≢◌, ℕ, zero, suc, ◌+◌, ◌-◌, ◌<◌, ◌≤◌, Bool, true, false, List, [], ◌∷◌, ◌++◌, length, map, take, drop, get_or, ◌⊎◌, inl, inr, Option, Some, None, Result, Ok, Err, refl, sym, ◌∙◌, ap, subst, arith, append_assoc, if◌then◌else◌, nat_lt, nat_le, nat_eq, ◌&&◌, IsTrue}
+use Rattle.std.proofs.Common.{◌≡◌, ℕ, zero, suc, ◌+◌, ◌<◌, ◌≤◌, Bool, true, false, List, [], ◌∷◌, ◌++◌, length, map, take, get_or, ◌⊎◌, inl, inr, Option, Some, None, Result, refl, sym, ◌∙◌, ap, subst, arith, append_assoc, if◌then◌else◌, nat_lt, nat_le, nat_eq}
 use Rattle.std.proofs.lemmas.Bool.Decides.{nat_tests}
-use Rattle.std.proofs.lemmas.List.{append-nil, length-take-le, length-map, get_or-take, get_or-map, get_or_default}
-use Rattle.std.proofs.lemmas.List.Elements.{All-nil, All-cons, All-filter, All-contains_itself, All-get_or, filter_passes}
+use Rattle.std.proofs.lemmas.List.{append-nil, length-take-le, length-map, get_or-take, get_or-map}
+use Rattle.std.proofs.lemmas.List.Elements.{All-nil, All-cons, All-filter, All-contains_itself, filter_passes}
 use Rattle.std.proofs.lemmas.List.Kept.{AllPairs-filter}
 use Rattle.std.proofs.lemmas.Option.{slice_get-get_or, slice_get_within, get_or_from_slice_get}
-use Rattle.std.specs.List.{All, AllPairs, Contains, filter, slice_get, slice_range}
+use Rattle.std.specs.List.{All, AllPairs, Contains, slice_get, slice_range}
 use Rattle.std.specs.List.Sorted.{IsStrictlyIncreasing}
 use Rattle.std.specs.Result.{IfOk}
 use Rattle.std.specs.declared.alloc.AllocError.{AllocError}
@@ -22,7 +22,7 @@ use Rattle.loop_nest.specs.Reached.{Reached}
 use Rattle.loop_nest.specs.Walks.{HasFlag, AreReachedFlags}
 use Rattle.loop_nest.proofs.Fitting.{IsWithin, AreApart, LoopsFit, loops-fit, and-first, and-second}
 use Rattle.loop_nest.proofs.ListLaws.{length-loops_of}
-use Rattle.loop_nest.proofs.Members.{none-in, in-map, in-filter, numbers-up, up-numbers, numbers-increase, range-flag, flag-range}
+use Rattle.loop_nest.proofs.Members.{in-map, in-filter, numbers-up, up-numbers, numbers-increase, range-flag, flag-range}
 
 -- ---- a loop and its blocks
 

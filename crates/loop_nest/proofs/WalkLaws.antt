@@ -1,7 +1,7 @@
 -- The walk finds exactly what is reached: what it finds is reached, and at its end what it found is closed under edges.
-use Rattle.std.proofs.Common.{◌≡◌, ◌≢◌, ℕ, zero, suc, ◌+◌, ◌<◌, ◌≤◌, Bool, true, false, List, [], ◌∷◌, ◌++◌, length, take, get_or, set, ◌⊎◌, inl, inr, Option, Some, None, refl, sym, ◌∙◌, ap, subst, arith, append_assoc, replicate, length-set, length-append, get_or-set_same, get_or-set_other, true≢false, if◌then◌else◌, nat_eq, count_by}
+use Rattle.std.proofs.Common.{◌≡◌, ◌≢◌, ℕ, zero, suc, ◌+◌, ◌<◌, ◌≤◌, Bool, true, false, List, [], ◌∷◌, ◌++◌, length, take, get_or, set, ◌⊎◌, inl, inr, refl, sym, ◌∙◌, ap, subst, arith, append_assoc, replicate, length-set, length-append, get_or-set_same, get_or-set_other, true≢false, if◌then◌else◌, nat_eq, count_by}
 use Rattle.std.proofs.lemmas.Bool.Decides.{Decides-eqb}
-use Rattle.std.proofs.lemmas.List.{append-nil, length-replicate, take_more, take-append-le, take_all, get_or_append_left, get_or_past}
+use Rattle.std.proofs.lemmas.List.{append-nil, length-replicate, take_more, take-append-le, take_all}
 use Rattle.std.proofs.lemmas.List.Elements.{All-nil, All-cons, All-push, All-weaker, All-append, All-contains, All-same, All-from_get_or, Contains-push, Contains-append_left, Contains-append_right, Contains-get_or}
 use Rattle.std.proofs.lemmas.List.Sums.{count_by-le-length, sum_by-set}
 use Rattle.std.proofs.lemmas.Option.{slice_get-get_or}

@@ -42,7 +42,7 @@ fn find(walk: &mut Walk, block: u32) -> Result<(), AllocError>
     Ok(())
 }
 
-// The blocks to which edges lead from one are found.
+// These blocks are found.
 fn find_all(walk: &mut Walk, blocks: &[u32]) -> Result<(), AllocError>
     requires found { AreFound walk.old.found.items walk.old.seen.items }
     requires within { All (λ b. b < length walk.old.seen.items) blocks.now }

@@ -1,4 +1,4 @@
-use Rattle.std.proofs.Common.{◌≡◌, ℕ, ◌-◌, Some, take, length, sym, ◌∙◌, ap, arith}
+use Rattle.std.proofs.Common.{◌≡◌, ℕ, ◌-◌, Some, take, length, ◌∙◌, ap, arith}
 use Rattle.std.specs.List.{slice_get}
 use Rattle.loop_nest.proofs.ListLaws.{inner-pop, inner-last}
 use Rattle.loop_nest.proofs.making.close.Goals as goal

@@ -1,4 +1,4 @@
-use Rattle.std.proofs.Common.{sym, ◌∙◌, true, false}
+use Rattle.std.proofs.Common.{sym, ◌∙◌, false}
 use Rattle.std.proofs.lemmas.List.{get_or_default}
 use Rattle.loop_nest.proofs.WalkLaws.{finds-new}
 use Rattle.loop_nest.proofs.walk.find.Goals as goal

@@ -1,6 +1,6 @@
 use Rattle.std.proofs.Common.{◌<◌, ◌≤◌, length, ◌∙◌, arith}
 use Rattle.std.proofs.lemmas.List.{get_or_default}
-use Rattle.loop_nest.proofs.WalkLaws.{walking-more, walked, few-found}
+use Rattle.loop_nest.proofs.WalkLaws.{walking-more, walked}
 use Rattle.loop_nest.proofs.walk.find_rest.Goals as goal
 
 pub loop-passed-preserved : goal.loop-passed-preserved
