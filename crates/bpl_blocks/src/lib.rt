@@ -1,5 +1,5 @@
-//! What programs become, from their text to their blocks, and what their runs do: tests of the reader, of typing, of flow and
-//! of replay together. The crate has no code.
+//! What programs become, from their text to their blocks and loops, and what their runs do: tests of the reader, of typing, of
+//! flow, of the loops and of replay together. The crate has no code.
 #![tactic(auto)]
 
 #[cfg(test)]
