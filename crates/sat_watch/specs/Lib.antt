@@ -1,0 +1,5 @@
+pub mod Lists
+pub mod Naming
+pub mod Stored
+pub mod Watches
+pub mod Watching
