@@ -2,7 +2,7 @@
 use Rattle.std.proofs.Common.{◌≡◌, ℕ, true, false, List, refl, ap, sym, ◌∙◌, inl, inr}
 use Rattle.std.proofs.lemmas.Bool.{cases_eq, false≢true}
 use Rattle.cnf_form.specs.Literal.{negation, is_among, look}
-use Rattle.cnf_form.specs.Store.{falses_of}
+use Rattle.cnf_form.specs.Store.{falses_of, LooksAt}
 use Rattle.cnf_form.specs.declared.look.Look.{Look}
 use Rattle.cnf_form.specs.declared.look.Look.TheVariants.{Falsified, Unit, Other}
 use Rattle.cnf_form.proofs.Looks.{look_falsified, look_unit, look_other, falsified_all, unit_parts}
@@ -37,3 +37,10 @@ one_true t c l p a h = kind (look (falses_of t) c) refl
           | inr e ↦ absurd (false≢true (sym open_here ∙ u.rest l a e))
         ]
     kind Other z = z
+
+-- the literal of a unit clause is free
+pub unit_not_true : (cs : List (List ℕ)) (t : List ℕ) (l id : ℕ) → LooksAt cs t id (Unit l) → is_among t l ≡ false
+unit_not_true cs t l id seen = ap (is_among t) (sym (negation-negation l)) ∙ sym (is_among-map t (negation l)) ∙ (unit_parts (falses_of t) seen.0 l seen.2).not_true
+
+pub unit_not_false : (cs : List (List ℕ)) (t : List ℕ) (l id : ℕ) → LooksAt cs t id (Unit l) → is_among t (negation l) ≡ false
+unit_not_false cs t l id seen = sym (is_among-map t l) ∙ (unit_parts (falses_of t) seen.0 l seen.2).not_false
