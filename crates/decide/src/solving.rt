@@ -14,7 +14,8 @@ use hy_term::{Reduced, Terms};
 use hy_val::Value;
 use map_axioms::{Plan, lift, reduce};
 use proof_check::refutation_is_sound;
-use sat_core::{Answer, ScanStore, solve};
+use sat_core::{Answer, solve};
+use sat_watch::WatchStore;
 use sqlite_items::Items;
 use std::alloc::{AllocError, Global};
 
@@ -22,7 +23,7 @@ use std::alloc::{AllocError, Global};
 fn answer_of(alloc: Global, cnf: &Cnf) -> Result<Answer, AllocError>
     ensures { IfOk result (IsAnswer cnf.now.variables cnf.now.clauses) }
 {
-    let mut store = ScanStore::of_cnf(alloc, cnf)?;
+    let mut store = WatchStore::of_cnf(alloc, cnf)?;
     let answer = solve(alloc, cnf.variables, &mut store);
     Ok(answer)
 }
