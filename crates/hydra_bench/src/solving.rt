@@ -4,7 +4,8 @@ ghost use Rattle.std.specs.Prelude.{◌≡◌};
 ghost use Rattle.cnf_form.specs.Literal.{clause_in_range};
 
 use cnf_form::{Clause, Cnf, Lit};
-use sat_core::{Answer, ScanStore, solve};
+use sat_core::{Answer, solve};
+use sat_watch::WatchStore;
 use std::alloc::{AllocError, Global};
 
 /// How many clauses there are for each variable; with so many, next to all instances are unsatisfiable.
@@ -78,7 +79,7 @@ fn formula(alloc: Global, variables: usize) -> Result<Cnf, AllocError> {
 pub fn decide(alloc: Global, variables: u64) -> Result<Counts, AllocError> {
     let cnf = formula(alloc, variables as usize)?;
     let clauses = cnf.clauses.len();
-    let mut store = ScanStore::of_cnf(alloc, &cnf)?;
+    let mut store = WatchStore::of_cnf(alloc, &cnf)?;
     match solve(alloc, cnf.variables, &mut store) {
         Answer::Sat(_) => Ok(Counts {
             clauses,
