@@ -91,9 +91,6 @@ part-ok (Ok ns) flags from to us first end p h = h ∙ p.is
 
 -- ---- numbering
 
-pub numbering-none : (flags : List Bool) → IsNumbering (take 0 flags) [] []
-numbering-none flags = record { all = refl; size = refl; counts = λ k lt. absurd (omega arith) }
-
 pub numbering-more : (flags : List Bool) (i : ℕ) (ups new before new_before : List ℕ) → i < length flags → IsNumbering (take i flags) ups before
     → new ≡ ups ++ (if get_or flags i false then i ∷ [] else []) → new_before ≡ before ++ length ups ∷ [] → IsNumbering (take (i + 1) flags) new new_before
 numbering-more flags i ups new before new_before within n e d =
@@ -118,9 +115,6 @@ numbering-more flags i ups new before new_before within n e d =
 
     count : (k : ℕ) → length before ≡ i → k < i + 1 → get_or (before ++ length ups ∷ []) k 0 ≡ length (numbers 0 (take k (take (i + 1) flags)))
     count k size lt = by k (nat_lt k i) refl size lt
-
-pub numbering-all : (flags fs : List Bool) (i : ℕ) (ups before : List ℕ) → flags ≡ fs → length flags ≤ i → IsNumbering (take i flags) ups before → IsNumbering fs ups before
-numbering-all flags fs i ups before e past n = subst (λ (gs : List Bool). IsNumbering gs ups before) (take_all i flags past ∙ e) n
 
 -- ---- the innermost loop
 
@@ -189,9 +183,6 @@ front P xs y h = λ k d lt. subst P (get_or_append_left xs (y ∷ []) d k lt) (h
 back : (P : SrcLoop → Type 0) (xs : List SrcLoop) (y : SrcLoop) → All P (xs ++ y ∷ []) → P y
 back P xs y h = subst P (get_or_push xs y y (length xs) refl) (h (length xs) y (omega (arith, length_push xs y)))
 
-pub made-none : (flags : List Bool) (spans : List SrcLoop) (loops : List Loop) (opened : List Open) → loops ≡ [] → opened ≡ [] → IsMade flags (take 0 spans) loops opened
-made-none flags spans loops opened e d = record { made = e; around = λ b h. ap (λ (os : List Open). inner os b) d }
-
 made-skip : (flags : List Bool) (passed : List SrcLoop) (l : SrcLoop) (loops : List Loop) (opened : List Open) → IsMade flags passed loops opened → get_or flags l.head false ≡ false → IsMade flags (passed ++ l ∷ []) loops opened
 made-skip flags passed l loops opened m down =
     let same : reached_of flags (passed ++ l ∷ []) ≡ reached_of flags passed = reached-push flags passed l false down ∙ append-nil (reached_of flags passed) in
@@ -238,6 +229,3 @@ made-more (Err e) flags spans at d loops new opened new_opened within pairs m up
 made-more (Ok t) flags spans at d loops new opened new_opened within pairs m up a b =
     subst (λ (ls : List SrcLoop). IsMade flags ls new new_opened) (sym (take_more spans at d within))
     (made-one flags (take at spans) (get_or spans at d) loops new opened new_opened m up (earlier-below spans at d pairs within) a b)
-
-pub made-all : (flags : List Bool) (spans : List SrcLoop) (at : ℕ) (loops : List Loop) (opened : List Open) → length spans ≤ at → IsMade flags (take at spans) loops opened → loops ≡ loops_of flags [] (reached_of flags spans)
-made-all flags spans at loops opened past m = m.made ∙ ap (λ (ls : List SrcLoop). loops_of flags [] (reached_of flags ls)) (take_all at spans past)

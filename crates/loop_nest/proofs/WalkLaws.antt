@@ -3,7 +3,7 @@ use Rattle.std.proofs.Common.{◌≡◌, ◌≢◌, ℕ, zero, suc, ◌+◌, ◌
 use Rattle.std.proofs.lemmas.Bool.Decides.{Decides-eqb}
 use Rattle.std.proofs.lemmas.List.{append-nil, length-replicate, take_more, take-append-le, take_all}
 use Rattle.std.proofs.lemmas.List.Elements.{All-nil, All-cons, All-push, All-weaker, All-append, All-contains, All-same, All-from_get_or, Contains-push, Contains-append_left, Contains-append_right, Contains-get_or}
-use Rattle.std.proofs.lemmas.List.Sums.{count_by-le-length, sum_by-set}
+use Rattle.std.proofs.lemmas.List.Sums.{sum_by-set}
 use Rattle.std.proofs.lemmas.Option.{slice_get-get_or}
 use Rattle.std.specs.List.{All, Contains}
 use Rattle.src_prog.specs.declared.block.Next.TheVariants.{Goto, Return}
@@ -46,17 +46,6 @@ up-before : (seen : List Bool) (block b : ℕ) → b ≢ block → HasFlag (set 
 up-before seen block b n h = sym (get_or-set_other seen block b true false n) ∙ h
 
 -- ---- a block is found
-
-pub finds-known : (block : ℕ) (found : List ℕ) (seen : List Bool) → AreFound found seen → HasFlag seen block → Finds (block ∷ []) found found seen seen
-finds-known block found seen fits known = record {
-  fits = fits;
-  size = refl;
-  more = [];
-  grown = sym (append-nil found);
-  kept = λ b h. h;
-  all = All-cons (HasFlag seen) block [] known (All-nil (HasFlag seen));
-  only = λ b h. inl h;
-}
 
 pub finds-new : (block : ℕ) (found new : List ℕ) (seen : List Bool) → AreFound found seen → block < length seen → get_or seen block false ≡ false → new ≡ found ++ block ∷ [] → Finds (block ∷ []) found new seen (set seen block true)
 finds-new block found new seen fits within out e = subst (λ (v : List ℕ). Finds (block ∷ []) found v seen (set seen block true)) (sym e) made
@@ -128,13 +117,7 @@ pub finds-step : (blocks found mid new : List ℕ) (seen mid_seen new_seen : Lis
 finds-step blocks found mid new seen mid_seen new_seen i within one two =
     subst (λ (ws : List ℕ). Finds ws found new seen new_seen) (sym (take_more blocks i 0 within)) (finds-both (take i blocks) (get_or blocks i 0 ∷ []) found mid new seen mid_seen new_seen one two)
 
-pub finds-all : (blocks found new : List ℕ) (seen new_seen : List Bool) (i : ℕ) → length blocks ≤ i → Finds (take i blocks) found new seen new_seen → Finds blocks found new seen new_seen
-finds-all blocks found new seen new_seen i past one = subst (λ (ws : List ℕ). Finds ws found new seen new_seen) (take_all i blocks past) one
-
 -- ---- the walk
-
-pub few-found : (found : List ℕ) (seen : List Bool) → AreFound found seen → length found ≤ length seen
-few-found found seen fits = omega (arith, fits.counted, count_by-le-length (λ (flag : Bool). flag) seen)
 
 pub none-found : (n : ℕ) → AreFound [] (replicate n false)
 none-found n = record {
