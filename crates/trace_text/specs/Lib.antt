@@ -1,0 +1,6 @@
+pub mod Pairs
+pub mod ReadValues
+pub mod Reading
+pub mod Traces
+pub mod Values
+pub mod Words
