@@ -4,6 +4,5 @@ pub mod Texts
 pub mod Top
 pub mod Traces
 pub mod Trees
-pub mod Values
 pub mod Words
 pub mod Writing

@@ -24,7 +24,8 @@ use Rattle.hydra_top.specs.declared.outcome.Refusal.{Refusal}
 use Rattle.hydra_top.specs.declared.outcome.Refusal.TheVariants.{NotBuilt as NotBuiltPart, TooLong, Lex, Parse, Typing, Flow, NoEntry}
 use Rattle.hydra_top.specs.declared.outcome.Outcome.{Outcome}
 use Rattle.hydra_top.specs.declared.outcome.Outcome.TheVariants.{Safe, Bug, Done, Refused, ReadFault, WriteFault, NoMemory}
-use Rattle.hydra_top.specs.Traces.{line, names_asked, trace_text}
+use Rattle.hydra_top.specs.Traces.{names_asked, trace_text}
+use Rattle.trace_text.specs.Traces.{line}
 
 -- ---- refusals
 

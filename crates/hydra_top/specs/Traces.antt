@@ -1,5 +1,5 @@
 -- How a failing run is printed: its choices, each with the name of the variable that takes it, and the assert that is false.
-use Rattle.std.specs.Prelude.{ℕ, ◌+◌, List, [], ◌∷◌, ◌++◌, map, flat_map, codes, decimal, slice_get, Option, None, Some}
+use Rattle.std.specs.Prelude.{ℕ, ◌+◌, List, [], ◌∷◌, ◌++◌, map, flat_map, codes, slice_get, Option, None, Some}
 use Rattle.std.specs.Option.{option_map_or}
 use Rattle.hy_val.specs.declared.expr.Var.{Var}
 use Rattle.hy_val.specs.declared.expr.Var.TheVariants.{Const, Global, Local}
@@ -10,12 +10,7 @@ use Rattle.src_prog.specs.declared.block.SrcBlock.{SrcBlock}
 use Rattle.src_prog.specs.declared.proc.Named.{Named}
 use Rattle.src_prog.specs.declared.proc.SrcProc.{SrcProc}
 use Rattle.src_run.specs.declared.machine.Choice.{Choice}
-use Rattle.src_run.specs.declared.machine.Choice.TheVariants.{Go, Val}
-use Rattle.hydra_top.specs.Values.{value_text}
-
--- a line ends with one line feed
-abbrev pub line : List ℕ → List ℕ
-line text = text ++ 10 ∷ []
+use Rattle.trace_text.specs.Traces.{choice_line, end_line, line}
 
 -- ---- names
 
@@ -63,11 +58,6 @@ names_asked prog (Some proc) =
 abbrev pub name_asked : List (List ℕ) → ℕ → List ℕ
 name_asked names index = option_map_or (λ (n : List ℕ). n) (slice_get names index) []
 
--- the value of a variable, or the place of a goto's target
-abbrev pub choice_line : List ℕ → Choice → List ℕ
-choice_line name (Val value) = line (codes "v " ++ name ++ codes " " ++ value_text value)
-choice_line name (Go place) = line (codes "g " ++ decimal place)
-
 -- a line for each choice, of which the first is at this index
 abbrev pub choice_lines : List (List ℕ) → ℕ → List Choice → List ℕ
 choice_lines names index [] = []
@@ -76,4 +66,4 @@ choice_lines names index (choice ∷ choices) = choice_line (name_asked names in
 -- a head, a line for each choice, and the assert that is false
 abbrev pub trace_text : Program → List (List ℕ) → List Choice → ℕ → ℕ → List ℕ
 trace_text prog names choices proc assert =
-    line (codes "Bug") ++ choice_lines names 0 choices ++ line (codes "fails " ++ proc_name prog proc ++ codes " " ++ decimal assert)
+    line (codes "Bug") ++ choice_lines names 0 choices ++ end_line (proc_name prog proc) assert

@@ -12,7 +12,6 @@ mod solving;
 pub mod text;
 pub mod top;
 pub mod trees;
-pub mod values;
 pub mod words;
 pub mod writing;
 

@@ -2,7 +2,7 @@
 
 ghost use Rattle.std.specs.Prelude.{◌≡◌, ◌++◌, IfOk, codes};
 ghost use Rattle.hydra_top.specs.Texts.{fault_line, flow_words, left_out, lex_words, parse_words, refusal_text, type_words};
-ghost use Rattle.hydra_top.specs.Traces.{line};
+ghost use Rattle.trace_text.specs.Traces.{line};
 
 use crate::outcome::Refusal;
 use bpl_ast::Word;

@@ -1,16 +1,14 @@
 //! The texts of traces.
 
-ghost use Rattle.std.specs.Prelude.{◌≡◌, ◌++◌, IfOk, OnOk, codes, decimal, map, slice_get};
-ghost use Rattle.hydra_top.specs.Traces.{choice_line, choice_lines, line, name_asked, names_asked, proc_name, trace_text};
-ghost use Rattle.hydra_top.specs.Values.{value_text};
+ghost use Rattle.std.specs.Prelude.{◌≡◌, ◌++◌, IfOk, OnOk, map, slice_get};
+ghost use Rattle.hydra_top.specs.Traces.{choice_lines, name_asked, names_asked, proc_name, trace_text};
 
 use crate::names::names_asked;
-use crate::values::put_value;
-use hy_text::{Bytes, put_u64};
-use hy_val::Value;
+use hy_text::Bytes;
 use src_prog::Prog;
 use src_run::{Choice, Failing};
 use std::alloc::{AllocError, Global};
+use trace_text::writing::{put_choice, put_end};
 
 /// The trace of a failing run of the entry, the procedure of this number: a head, a line for each choice, and the assert that
 /// is false.
@@ -20,7 +18,7 @@ pub fn trace(alloc: Global, prog: &Prog, entry: u32, failing: &Failing) -> Resul
     let names = names_asked(alloc, prog, entry)?;
     let mut text = Bytes::from_slice(alloc, b"Bug\n")?;
     put_choices(&mut text, names.as_slice(), failing.choices.as_slice())?;
-    put_last_line(&mut text, prog, failing.proc, failing.assert)?;
+    put_end(&mut text, proc_name(prog, failing.proc), failing.assert)?;
     Ok(text)
 }
 
@@ -32,43 +30,6 @@ fn put_choices(text: &mut Bytes, names: &[&[u8]], choices: &[Choice]) -> Result<
         put_choice(text, name_asked(names, index), choice)?;
     }
     Ok(())
-}
-
-fn put_choice(text: &mut Bytes, name: &[u8], choice: &Choice) -> Result<(), AllocError>
-    ensures { OnOk result (text.new ≡ text.old ++ choice_line name.now choice.now) }
-{
-    match choice {
-        Choice::Val(value) => put_value_line(text, name, value),
-        Choice::Go(place) => put_place_line(text, *place),
-    }
-}
-
-fn put_value_line(text: &mut Bytes, name: &[u8], value: &Value) -> Result<(), AllocError>
-    ensures { OnOk result (text.new ≡ text.old ++ line (codes "v " ++ name.now ++ codes " " ++ value_text value.now)) }
-{
-    text.append(b"v ")?;
-    text.append(name)?;
-    text.append(b" ")?;
-    put_value(text, value)?;
-    text.push(b'\n')
-}
-
-fn put_place_line(text: &mut Bytes, place: u32) -> Result<(), AllocError>
-    ensures { OnOk result (text.new ≡ text.old ++ line (codes "g " ++ decimal place)) }
-{
-    text.append(b"g ")?;
-    put_u64(text, u64::from(place))?;
-    text.push(b'\n')
-}
-
-fn put_last_line(text: &mut Bytes, prog: &Prog, proc: u32, assert: u32) -> Result<(), AllocError>
-    ensures { OnOk result (text.new ≡ text.old ++ line (codes "fails " ++ proc_name prog.now proc ++ codes " " ++ decimal assert)) }
-{
-    text.append(b"fails ")?;
-    text.append(proc_name(prog, proc))?;
-    text.append(b" ")?;
-    put_u64(text, u64::from(assert))?;
-    text.push(b'\n')
 }
 
 // The name for the choice at an index.

@@ -1,6 +1,0 @@
-use Rattle.std.proofs.Common.{◌≡◌, ◌++◌, drop}
-use Rattle.hydra_top.specs.Values.{more_pairs_text}
-use Rattle.hydra_top.proofs.values.put_more_pairs.Given as goal
-
-abbrev pub invariant-loop-pair : goal.invariant-loop-pair
-invariant-loop-pair l = l.text ++ more_pairs_text (drop l.pair-index l.pairs) ≡ l.initial.text ++ more_pairs_text l.pairs
