@@ -15,7 +15,7 @@ use Rattle.bpl_type.specs.declared.typed.TypedStmt.TheVariants as stmts
 use Rattle.hy_val.specs.declared.atom.AtomKind.TheVariants.{Bool as Truth}
 use Rattle.hy_val.specs.declared.expr.ExprNode.{ExprNode}
 use Rattle.hy_val.specs.declared.expr.ExprNode.TheVariants.{Lit}
-use Rattle.src_prog.specs.Scope.{Scope}
+use Rattle.hy_val.specs.Scope.{Scope}
 
 abbrev truth : List ExprNode
 truth = Lit (Truth true) ∷ []

@@ -17,7 +17,8 @@ use Rattle.hy_val.specs.declared.operator.UnOp.TheVariants.{Not}
 use Rattle.hy_val.specs.declared.sort.Sort.{Sort}
 use Rattle.hy_val.specs.declared.sort.ScalarKind.TheVariants.{Bool as BoolSort, Bv as BvSort}
 use Rattle.hy_val.specs.declared.sort.SortKind.TheVariants.{Scalar as ScalarSort, Map as MapSort}
-use Rattle.src_prog.specs.Scope.{Scope, are_same, cmd_fits, is_condition, node_fits, sort_of_expr}
+use Rattle.hy_val.specs.Scope.{Scope, are_same, is_condition, node_fits, sort_of_expr}
+use Rattle.src_prog.specs.Scope.{cmd_fits}
 use Rattle.src_prog.specs.declared.block.Cmd.{Cmd}
 use Rattle.src_prog.specs.declared.block.Cmd.TheVariants as cmds
 use Rattle.src_prog.specs.declared.proc.SrcProc.{SrcProc}

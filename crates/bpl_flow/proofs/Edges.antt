@@ -12,7 +12,8 @@ use Rattle.bpl_flow.specs.declared.state.End.TheVariants.{Goes, Returns}
 use Rattle.bpl_flow.specs.declared.state.Ended.{Ended}
 use Rattle.bpl_flow.specs.declared.state.Jump.{Jump}
 use Rattle.bpl_flow.specs.declared.state.Place.{Place}
-use Rattle.src_prog.specs.Scope.{Scope, cmd_fits}
+use Rattle.hy_val.specs.Scope.{Scope}
+use Rattle.src_prog.specs.Scope.{cmd_fits}
 use Rattle.src_prog.specs.declared.proc.SrcLoop.{SrcLoop}
 use Rattle.src_prog.specs.declared.proc.SrcProc.{SrcProc}
 

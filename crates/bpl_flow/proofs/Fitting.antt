@@ -13,7 +13,7 @@ use Rattle.bpl_type.specs.declared.typed.TypedStmt.TheFolds.{the_lemmas}
 use Rattle.bpl_type.specs.declared.typed.TypedStmt.TheOpen.{TypedStmt-F}
 use Rattle.bpl_type.specs.declared.typed.TypedStmt.TheVariants as stmts
 use Rattle.hy_val.specs.declared.expr.ExprNode.{ExprNode}
-use Rattle.src_prog.specs.Scope.{Scope, node_fits}
+use Rattle.hy_val.specs.Scope.{Scope, node_fits}
 
 pub fits-if : (cs : List TypedProc) (sc : Scope) (guard : Option (List ExprNode)) (part other : List TypedStmt) → stmt_fits cs sc (stmts.If guard part other) ≡ fits_node cs sc (TypedStmt-F.If guard (map (stmt_fits cs sc) part) (map (stmt_fits cs sc) other))
 unfolding stmt_fits

@@ -21,7 +21,8 @@ use Rattle.bpl_type.specs.declared.typed.TypedStmt.TheVariants as stmts
 use Rattle.bpl_type.specs.declared.typed.TypedStmt.TheVariants.{rolls-Label, rolls-Assert, rolls-Assume, rolls-Havoc, rolls-Goto, rolls-Return, rolls-Break, rolls-Assign, rolls-Call, rolls-If, rolls-While}
 use Rattle.hy_val.specs.declared.expr.ExprNode.{ExprNode}
 use Rattle.hy_val.specs.declared.expr.Var.{Var}
-use Rattle.src_prog.specs.Scope.{Scope, call_fits, is_condition, is_target, pair_fits}
+use Rattle.hy_val.specs.Scope.{Scope, is_condition, is_target, pair_fits}
+use Rattle.src_prog.specs.Scope.{call_fits}
 use Rattle.src_prog.specs.declared.block.Cmd.TheVariants as cmds
 use Rattle.src_prog.specs.declared.proc.SrcProc.{SrcProc}
 

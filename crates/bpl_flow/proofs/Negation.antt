@@ -12,7 +12,7 @@ use Rattle.hy_val.specs.declared.operator.UnOp.TheVariants.{Not}
 use Rattle.hy_val.specs.declared.sort.Sort.{Sort}
 use Rattle.hy_val.specs.declared.sort.ScalarKind.TheVariants.{Bool as BoolSort, Bv as BvSort}
 use Rattle.hy_val.specs.declared.sort.SortKind.TheVariants.{Scalar as ScalarSort, Map as MapSort}
-use Rattle.src_prog.specs.Scope.{are_same}
+use Rattle.hy_val.specs.Scope.{are_same}
 
 pub and_then-same : {A B : Type 0} (o : Option A) (f h : A → Option B) (g : B → Option B) → ((s : A) → h s ≡ option_and_then g (f s)) → option_and_then h o ≡ option_and_then g (option_and_then f o)
 and_then-same None f h g e = refl

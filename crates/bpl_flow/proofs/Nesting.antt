@@ -17,7 +17,8 @@ use Rattle.bpl_flow.specs.declared.state.End.TheVariants.{Goes}
 use Rattle.bpl_flow.specs.declared.state.Ended.{Ended}
 use Rattle.bpl_flow.specs.declared.state.Walk.{Walk}
 use Rattle.hy_val.specs.declared.expr.ExprNode.{ExprNode}
-use Rattle.src_prog.specs.Scope.{Scope, cmd_fits}
+use Rattle.hy_val.specs.Scope.{Scope}
+use Rattle.src_prog.specs.Scope.{cmd_fits}
 use Rattle.src_prog.specs.declared.block.Cmd.{Cmd}
 use Rattle.src_prog.specs.declared.proc.SrcLoop.{SrcLoop}
 use Rattle.src_prog.specs.declared.proc.SrcProc.{SrcProc}

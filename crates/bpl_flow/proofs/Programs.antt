@@ -26,8 +26,10 @@ use Rattle.hy_val.specs.declared.expr.ExprNode.{ExprNode}
 use Rattle.hy_val.specs.declared.expr.Var.{Var}
 use Rattle.src_prog.specs.Loops.{are_nested, loop_is_within}
 use Rattle.src_prog.specs.Program.{Program}
-use Rattle.src_prog.specs.Scope.{Scope, call_fits, is_condition, locals_of, sorts_of as program_sorts}
-use Rattle.src_prog.specs.Shape.{are_numbered, ascend_from, blocks_fit, constant_scope as program_constants, is_procedure, is_program, loops_fit, names_fit, scope_of}
+use Rattle.hy_val.specs.Scope.{Scope, is_condition}
+use Rattle.src_prog.specs.Scope.{call_fits, locals_of, sorts_of as program_sorts}
+use Rattle.hy_val.specs.Scope.{are_numbered, ascend_from}
+use Rattle.src_prog.specs.Shape.{blocks_fit, constant_scope as program_constants, is_procedure, is_program, loops_fit, names_fit, scope_of}
 use Rattle.src_prog.specs.declared.proc.SrcProc.{SrcProc}
 
 -- ---- faults

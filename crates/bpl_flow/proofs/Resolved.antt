@@ -19,7 +19,8 @@ use Rattle.bpl_flow.specs.declared.state.Ended.{Ended}
 use Rattle.bpl_flow.specs.declared.state.Jump.{Jump}
 use Rattle.bpl_flow.specs.declared.state.Place.{Place}
 use Rattle.src_prog.specs.Loops.{are_nested, edge_fits, enters_at_head, goes_back, holds_block, is_apart_or_inside, loop_is_within}
-use Rattle.src_prog.specs.Scope.{Scope, cmd_fits}
+use Rattle.hy_val.specs.Scope.{Scope}
+use Rattle.src_prog.specs.Scope.{cmd_fits}
 use Rattle.src_prog.specs.Shape.{block_fits, blocks_fit, next_fits, target_fits}
 use Rattle.src_prog.specs.declared.proc.SrcLoop.{SrcLoop}
 use Rattle.src_prog.specs.declared.proc.SrcProc.{SrcProc}

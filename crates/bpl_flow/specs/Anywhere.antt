@@ -4,7 +4,7 @@ use Rattle.std.specs.List.{list_all}
 use Rattle.bpl_type.specs.WellTyped.{stmt_fits}
 use Rattle.bpl_type.specs.declared.typed.TypedProc.{TypedProc}
 use Rattle.bpl_type.specs.declared.typed.TypedStmt.{TypedStmt}
-use Rattle.src_prog.specs.Scope.{Scope}
+use Rattle.hy_val.specs.Scope.{Scope}
 
 pub record Anywhere (s : TypedStmt) : Type 0 where
   pub fits : (callees : List TypedProc) (scope : Scope) → IsTrue (stmt_fits callees scope s)

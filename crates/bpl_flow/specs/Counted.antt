@@ -3,7 +3,7 @@ use Rattle.std.specs.Prelude.{Bool, ◌&&◌, length}
 use Rattle.std.specs.List.{list_all}
 use Rattle.src_prog.specs.Program.{Program}
 use Rattle.src_prog.specs.Scope.{locals_of}
-use Rattle.src_prog.specs.Shape.{are_numbered}
+use Rattle.hy_val.specs.Scope.{are_numbered}
 use Rattle.src_prog.specs.declared.proc.SrcProc.{SrcProc}
 
 abbrev pub is_counted_proc : SrcProc → Bool

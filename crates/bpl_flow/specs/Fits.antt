@@ -8,7 +8,7 @@ use Rattle.bpl_type.specs.declared.typed.TypedStmt.{TypedStmt}
 use Rattle.hy_val.specs.declared.expr.ExprNode.{ExprNode}
 use Rattle.hy_val.specs.declared.sort.ScalarKind.TheVariants.{Bool as BoolSort}
 use Rattle.hy_val.specs.declared.sort.SortKind.TheVariants.{Scalar as ScalarSort}
-use Rattle.src_prog.specs.Scope.{Scope, are_same, sort_of_expr}
+use Rattle.hy_val.specs.Scope.{Scope, are_same, sort_of_expr}
 
 pub record Fits (s : TypedStmt) : Type 0 where
   pub callees : List TypedProc

@@ -4,7 +4,7 @@ ghost use Rattle.std.specs.List.{list_all};
 ghost use Rattle.bpl_flow.specs.Counted.{is_counted, is_counted_proc};
 ghost use Rattle.bpl_flow.specs.Parted.{program_by};
 ghost use Rattle.src_prog.specs.Scope.{locals_of};
-ghost use Rattle.src_prog.specs.Shape.{are_numbered};
+ghost use Rattle.hy_val.specs.Scope.{are_numbered};
 
 use crate::lowering::Parts;
 use src_prog::SrcProc;

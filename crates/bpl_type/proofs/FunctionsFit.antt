@@ -14,8 +14,8 @@ use Rattle.hy_val.specs.NodeSorts.{is_sort, same_sort, as_scalar, unary_sort, bi
 use Rattle.hy_val.specs.declared.expr.Var.{Var}
 use Rattle.hy_val.specs.declared.expr.Var.TheVariants.{Const, Global, Local}
 use Rattle.hy_val.specs.declared.sort.Sort.{Sort}
-use Rattle.src_prog.specs.Scope.{is_sort_of, sort_of_variable}
-use Rattle.src_prog.specs.Scope as src
+use Rattle.hy_val.specs.Scope.{is_sort_of, sort_of_variable}
+use Rattle.hy_val.specs.Scope as src
 use Rattle.type_pass.specs.declared.fault.TypeKind.{TypeKind}
 use Rattle.type_pass.specs.declared.fault.TypeKind.TheVariants.{Mismatch}
 use Rattle.type_pass.specs.declared.tables.Builtin.{Builtin}

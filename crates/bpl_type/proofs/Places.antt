@@ -9,8 +9,8 @@ use Rattle.hy_val.specs.NodeSorts.{is_sort}
 use Rattle.hy_val.specs.declared.expr.Var.{Var}
 use Rattle.hy_val.specs.declared.expr.Var.TheVariants.{Const, Global, Local}
 use Rattle.hy_val.specs.declared.sort.Sort.{Sort}
-use Rattle.src_prog.specs.Scope.{sort_of_variable, is_sort_of}
-use Rattle.src_prog.specs.Scope as src
+use Rattle.hy_val.specs.Scope.{sort_of_variable, is_sort_of}
+use Rattle.hy_val.specs.Scope as src
 use Rattle.type_pass.specs.declared.tables.Scope.{Scope}
 use Rattle.type_pass.specs.declared.tables.Tables.{Tables}
 use Rattle.type_pass.specs.declared.tables.Named.{Named}

@@ -24,9 +24,9 @@ use Rattle.bpl_ast.specs.declared.name.Name.{Name}
 use Rattle.bpl_ast.specs.declared.stmt.Stmt.{Stmt}
 use Rattle.hy_val.specs.NodeSorts.{is_sort, same_sort}
 use Rattle.hy_val.specs.declared.sort.Sort.{Sort as Resolved}
-use Rattle.src_prog.specs.Scope.{is_condition}
-use Rattle.src_prog.specs.Scope as src
-use Rattle.src_prog.specs.Shape.{ascend_from}
+use Rattle.hy_val.specs.Scope.{is_condition}
+use Rattle.hy_val.specs.Scope as src
+use Rattle.hy_val.specs.Scope.{ascend_from}
 use Rattle.type_pass.specs.declared.fault.TypeFault.{TypeFault}
 use Rattle.type_pass.specs.declared.fault.TypeKind.TheVariants.{Arity, Mismatch, Cyclic}
 use Rattle.type_pass.specs.declared.tables.Heading.{Heading}

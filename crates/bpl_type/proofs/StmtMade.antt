@@ -9,8 +9,9 @@ use Rattle.hy_val.specs.declared.sort.ScalarKind.TheVariants.{Bool as BoolSort}
 use Rattle.hy_val.specs.declared.sort.Sort.{Sort}
 use Rattle.hy_val.specs.declared.sort.SortKind.TheVariants.{Scalar as ScalarSort}
 use Rattle.bpl_ast.specs.declared.name.Name.{Name}
-use Rattle.src_prog.specs.Scope.{are_same, node_fits, sort_of_expr, expr_fits, is_condition, pair_fits, args_fit, targets_fit}
-use Rattle.src_prog.specs.Scope as src
+use Rattle.hy_val.specs.Scope.{are_same, node_fits, sort_of_expr, expr_fits, is_condition, pair_fits}
+use Rattle.src_prog.specs.Scope.{args_fit, targets_fit}
+use Rattle.hy_val.specs.Scope as src
 use Rattle.src_prog.specs.declared.proc.Named.{Named}
 use Rattle.bpl_type.specs.declared.typed.TypedInvariant.{TypedInvariant}
 use Rattle.bpl_type.specs.declared.typed.TypedProc.{TypedProc}

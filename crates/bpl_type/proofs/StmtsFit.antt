@@ -24,8 +24,9 @@ use Rattle.hy_val.specs.declared.expr.Var.{Var}
 use Rattle.hy_val.specs.declared.expr.Var.TheVariants.{Const, Global, Local}
 use Rattle.hy_val.specs.declared.sort.Sort.{Sort}
 use Rattle.hy_val.specs.declared.sort.SortKind.TheVariants.{Scalar as ScalarSort, Map as MapSort}
-use Rattle.src_prog.specs.Scope.{sort_of_variable, sort_of_target, is_sort_of, are_same, is_target, is_condition, expr_fits, pair_fits, args_fit, targets_fit}
-use Rattle.src_prog.specs.Scope as src
+use Rattle.hy_val.specs.Scope.{sort_of_variable, sort_of_target, is_sort_of, are_same, is_target, is_condition, expr_fits, pair_fits}
+use Rattle.src_prog.specs.Scope.{args_fit, targets_fit}
+use Rattle.hy_val.specs.Scope as src
 use Rattle.type_pass.specs.declared.fault.TypeFault.{TypeFault}
 use Rattle.type_pass.specs.declared.fault.TypeKind.TheVariants.{Mismatch, NotAssignable, Arity, LeftOut}
 use Rattle.bpl_ast.specs.declared.word.Word.TheVariants.{NoBody}

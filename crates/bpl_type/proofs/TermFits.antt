@@ -8,7 +8,7 @@ use Rattle.hy_val.specs.declared.expr.ExprNode.TheVariants as nodes
 use Rattle.hy_val.specs.declared.expr.Var.{Var}
 use Rattle.hy_val.specs.declared.operator.BvOp.TheVariants.{Implies}
 use Rattle.hy_val.specs.declared.sort.Sort.{Sort}
-use Rattle.src_prog.specs.Scope.{Scope, sort_of_variable, is_sort_of, are_same, node_fits, sort_of_expr, expr_fits}
+use Rattle.hy_val.specs.Scope.{Scope, sort_of_variable, is_sort_of, are_same, node_fits, sort_of_expr, expr_fits}
 use Rattle.type_pass.specs.Terms.{Term, size, nodes_from, nodes_of, term_sort, local_term, substituted}
 use Rattle.bpl_type.proofs.Elements.{both, and-true}
 use Rattle.bpl_type.proofs.Fitted.{Known, fitted, Holds, holds}

@@ -13,8 +13,9 @@ use Rattle.hy_val.specs.NodeSorts.{is_sort}
 use Rattle.hy_val.specs.declared.expr.ExprNode.{ExprNode}
 use Rattle.hy_val.specs.declared.expr.Var.{Var}
 use Rattle.hy_val.specs.declared.sort.Sort.{Sort}
-use Rattle.src_prog.specs.Scope.{Scope, is_condition, is_target, pair_fits, args_fit, targets_fit}
-use Rattle.src_prog.specs.Shape.{ascend_from}
+use Rattle.hy_val.specs.Scope.{Scope, is_condition, is_target, pair_fits}
+use Rattle.src_prog.specs.Scope.{args_fit, targets_fit}
+use Rattle.hy_val.specs.Scope.{ascend_from}
 use Rattle.src_prog.specs.declared.proc.Named.{Named}
 
 abbrev pub named : TypedName → Named

@@ -1,3 +1,4 @@
+pub mod Booleans
 pub mod Building
 pub mod Evaluating
 pub mod Keeping
@@ -6,5 +7,6 @@ pub mod Lists
 pub mod Ranges
 pub mod ResultSorts
 pub mod Same
+pub mod Scopes
 pub mod Tables
 pub mod Words

@@ -6,7 +6,9 @@ use Rattle.hy_val.specs.Maps.{is_map, stored, WritesAt}
 use Rattle.hy_val.specs.NodeSorts.{is_sort}
 use Rattle.hy_val.specs.Operators.{sort_of_unary, sort_of_binary}
 use Rattle.hy_val.specs.Values.{zero_of, has_sort, at, unary_value, binary_value, pick, select_value, store_value}
-use Rattle.hy_val.specs.Exprs.{node_by, values_by, eval_by, read, reads}
+use Rattle.hy_val.specs.Exprs.{eval, node_by, values_by, eval_by, read, reads}
+use Rattle.hy_val.specs.Scope.{Scope, expr_fits}
+use Rattle.hy_val.specs.Stores.{have_sorts}
 use Rattle.hy_val.specs.Building.{sorts_of, sort_at}
 use Rattle.hy_val.specs.declared.sort.Scalar.{Scalar}
 use Rattle.hy_val.specs.declared.sort.Sort.{Sort}
@@ -93,3 +95,10 @@ pub record RenamingKeeps (f : Var → Var) (look : Var → Value) (nodes : List 
 
 abbrev pub RenamingKeepsAll : Type 0
 RenamingKeepsAll = (f : Var → Var) (look : Var → Value) (nodes : List ExprNode) → RenamingKeeps f look nodes
+
+-- an expression that fits can be evaluated where each variable of the scope has a value of its sort, and its value has the sort that it should have
+abbrev pub FittingExpressionsHaveTheirSorts : Type 0
+FittingExpressionsHaveTheirSorts =
+    (scope : Scope) (env : Env) → have_sorts env.consts scope.consts ≡ true → have_sorts env.globals scope.globals ≡ true → have_sorts env.locals scope.locals ≡ true
+    → (s : Sort) (nodes : List ExprNode) → expr_fits scope (Some s) nodes ≡ true
+    → (reads env nodes ≡ true) × (has_sort (eval env nodes) s ≡ true)

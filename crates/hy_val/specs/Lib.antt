@@ -8,7 +8,9 @@ pub mod Maps
 pub mod NodeSorts
 pub mod Operators
 pub mod Places
+pub mod Scope
 pub mod Sorts
+pub mod Stores
 pub mod Table
 pub mod Values
 pub mod Word

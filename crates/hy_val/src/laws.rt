@@ -1,6 +1,6 @@
 //! Laws of the definitions, each the contract of a function that does nothing.
 ghost use Rattle.hy_val.specs.Maps.{MapsThatAgreeAreEqual};
-ghost use Rattle.hy_val.specs.Laws.{StoresWriteAtOne, ValuesKeepSorts, ChildrenAreLower, EachNodeByCases, EachNodeHasItsSort, OnlyVariablesMatter, RenamingKeepsAll};
+ghost use Rattle.hy_val.specs.Laws.{StoresWriteAtOne, ValuesKeepSorts, ChildrenAreLower, EachNodeByCases, EachNodeHasItsSort, FittingExpressionsHaveTheirSorts, OnlyVariablesMatter, RenamingKeepsAll};
 
 /// Two map values of the same sorts that have the same entry at every index are equal.
 pub fn maps_that_agree_are_equal()
@@ -32,6 +32,12 @@ pub fn each_node_is_by_cases()
 /// variables with their sorts.
 pub fn each_node_has_its_sort()
     ensures { EachNodeHasItsSort }
+{}
+
+/// An expression that fits in a scope can be evaluated wherever each variable of the scope has a value
+/// of its sort, and its value has the sort that the expression fits at.
+pub fn fitting_expressions_have_their_sorts()
+    ensures { FittingExpressionsHaveTheirSorts }
 {}
 
 /// The value of an expression depends on the variables that stand in it alone.

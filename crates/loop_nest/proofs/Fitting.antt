@@ -7,8 +7,10 @@ use Rattle.std.proofs.lemmas.Option.{slice_get_read}
 use Rattle.std.specs.List.{All, AllPairs, Contains, list_all, slice_get}
 use Rattle.src_prog.specs.Loops.{holds_block, loop_is_within, is_apart_or_inside, are_nested, goes_back, enters_at_head}
 use Rattle.src_prog.specs.Program.{Program}
-use Rattle.src_prog.specs.Scope.{Scope, locals_of, cmd_fits, is_condition}
-use Rattle.src_prog.specs.Shape.{is_program, is_procedure, target_fits, next_fits, block_fits, blocks_fit, scope_of, loops_fit, names_fit, are_numbered, ascend_from, constant_scope}
+use Rattle.hy_val.specs.Scope.{Scope, is_condition}
+use Rattle.src_prog.specs.Scope.{locals_of, cmd_fits}
+use Rattle.src_prog.specs.Shape.{is_program, is_procedure, target_fits, next_fits, block_fits, blocks_fit, scope_of, loops_fit, names_fit, constant_scope}
+use Rattle.hy_val.specs.Scope.{are_numbered, ascend_from}
 use Rattle.src_prog.specs.declared.block.Next.{Next}
 use Rattle.src_prog.specs.declared.block.Next.TheVariants.{Goto, Return}
 use Rattle.src_prog.specs.declared.block.SrcBlock.{SrcBlock}

@@ -11,8 +11,10 @@ use Rattle.hy_val.specs.declared.expr.Var.TheVariants.{Const, Global, Local}
 use Rattle.hy_val.specs.declared.sort.Sort.{Sort}
 use Rattle.hy_val.specs.declared.value.Value.{Value}
 use Rattle.src_prog.specs.Program.{Program}
-use Rattle.src_prog.specs.Scope.{Scope, sorts_of, locals_of, sort_of_target, is_target, cmd_fits}
-use Rattle.src_prog.specs.Shape.{is_program, names_fit, are_numbered, scope_of}
+use Rattle.hy_val.specs.Scope.{Scope, sort_of_target, is_target}
+use Rattle.src_prog.specs.Scope.{sorts_of, locals_of, cmd_fits}
+use Rattle.src_prog.specs.Shape.{is_program, names_fit, scope_of}
+use Rattle.hy_val.specs.Scope.{are_numbered}
 use Rattle.src_prog.specs.declared.block.Cmd.{Cmd}
 use Rattle.src_prog.specs.declared.block.Cmd.TheVariants.{Assign, Havoc, Assume, Assert, Call}
 use Rattle.src_prog.specs.declared.block.Next.{Next}
@@ -21,14 +23,16 @@ use Rattle.src_prog.specs.declared.block.SrcBlock.{SrcBlock}
 use Rattle.src_prog.specs.declared.proc.Named.{Named}
 use Rattle.src_prog.specs.declared.proc.SrcLoop.{SrcLoop}
 use Rattle.src_prog.specs.declared.proc.SrcProc.{SrcProc}
-use Rattle.src_run.proofs.Environments.{and-first, and-second, and-both, all-at}
+use Rattle.hy_val.proofs.Booleans.{and-first, and-second, and-both}
+use Rattle.hy_val.proofs.Booleans.{all-at}
 use Rattle.src_run.proofs.Programs.{names_of_proc, names_of_consts, names_of_globals, cmd_fits_in}
 use Rattle.src_run.proofs.Runs.{either_way}
 use Rattle.src_run.specs.declared.machine.Choice.{Choice}
 use Rattle.src_run.specs.declared.machine.Choice.TheVariants.{Go, Val}
 use Rattle.src_run.specs.declared.machine.Status.{Status}
 use Rattle.src_run.specs.declared.machine.Status.TheVariants.{Going, Ended, Failed, Blocked, Cut, BadChoice}
-use Rattle.src_run.specs.Machine.{Config, Frame, Lap, Want, Way, Again, Enter, Stay, Out, AConst, AGlobal, ALocal, AVariable, ATarget, with_status, env_of, holds, open_count, locals_wanted, call, command, entry_of, way, land_outside, land_inside, arrive, loops_of, jump, outs_of, leave, follow, at_command, at_block, at_proc, at_frames, tick, tested, are_allowed, bad, with_variable, go_to, take_choice, begin, begin_in, first_frame, wants_of, turn, going, over, after, within, Comes}
+use Rattle.src_run.specs.Machine.{Config, Frame, Lap, Want, Way, Again, Enter, Stay, Out, AConst, AGlobal, ALocal, AVariable, ATarget, with_status, env_of, open_count, locals_wanted, call, command, entry_of, way, land_outside, land_inside, arrive, loops_of, jump, outs_of, leave, follow, at_command, at_block, at_proc, at_frames, tick, tested, are_allowed, bad, with_variable, go_to, take_choice, begin, begin_in, first_frame, wants_of, turn, going, over, after, within, Comes}
+use Rattle.hy_val.specs.Stores.{holds}
 use Rattle.src_law.specs.Statuses.{AreTaken, EachAskCanBeMet}
 use Rattle.src_law.proofs.Ends.{tick_comes, choice_comes}
 use Rattle.src_law.proofs.Taken.{Took, jump_took, tested_took, variable_took}

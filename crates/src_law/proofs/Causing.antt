@@ -9,8 +9,10 @@ use Rattle.hy_val.specs.declared.expr.Var.{Var}
 use Rattle.hy_val.specs.declared.sort.Sort.{Sort}
 use Rattle.hy_val.specs.declared.value.Value.{Value}
 use Rattle.src_prog.specs.Program.{Program}
-use Rattle.src_prog.specs.Scope.{sorts_of, locals_of, sort_of_target, call_fits}
-use Rattle.src_prog.specs.Shape.{is_program, next_fits, target_fits, scope_of, names_fit, are_numbered}
+use Rattle.src_prog.specs.Scope.{sorts_of, locals_of, call_fits}
+use Rattle.hy_val.specs.Scope.{sort_of_target}
+use Rattle.src_prog.specs.Shape.{is_program, next_fits, target_fits, scope_of, names_fit}
+use Rattle.hy_val.specs.Scope.{are_numbered}
 use Rattle.src_prog.specs.declared.block.Cmd.{Cmd}
 use Rattle.src_prog.specs.declared.block.Cmd.TheVariants.{Assign, Havoc, Assume, Assert, Call}
 use Rattle.src_prog.specs.declared.block.Next.{Next}
@@ -19,13 +21,15 @@ use Rattle.src_prog.specs.declared.block.SrcBlock.{SrcBlock}
 use Rattle.src_prog.specs.declared.proc.Named.{Named}
 use Rattle.src_prog.specs.declared.proc.SrcLoop.{SrcLoop}
 use Rattle.src_prog.specs.declared.proc.SrcProc.{SrcProc}
-use Rattle.src_run.proofs.Environments.{and-first, and-second, all-at}
+use Rattle.hy_val.proofs.Booleans.{and-first, and-second}
+use Rattle.hy_val.proofs.Booleans.{all-at}
 use Rattle.src_run.proofs.Programs.{proc_fits, next_fits_in, cmd_fits_in}
 use Rattle.src_run.specs.declared.machine.Choice.{Choice}
 use Rattle.src_run.specs.declared.machine.Choice.TheVariants.{Go, Val}
 use Rattle.src_run.specs.declared.machine.Status.{Status}
 use Rattle.src_run.specs.declared.machine.Status.TheVariants.{Going, Ended, Failed, Blocked, Cut, BadChoice}
-use Rattle.src_run.specs.Machine.{Config, Frame, Lap, Want, Way, Again, Enter, Stay, Out, AConst, AGlobal, ALocal, AVariable, ATarget, Turn, Stands, GoesOn, with_status, env_of, holds, store_of, put, write, write_all, open_count, further, call, command, entry_of, way, land, land_outside, land_inside, arrive, loops_of, jump, outs_of, leave, follow, at_command, at_block, at_proc, at_frames, tick, tested, are_allowed, bad, with_local, with_variable, go_to, take_choice, begin, begin_in, first_frame, wants_of, turn, going, over, HasStatus}
+use Rattle.src_run.specs.Machine.{Config, Frame, Lap, Want, Way, Again, Enter, Stay, Out, AConst, AGlobal, ALocal, AVariable, ATarget, Turn, Stands, GoesOn, with_status, env_of, store_of, put, open_count, further, call, command, entry_of, way, land, land_outside, land_inside, arrive, loops_of, jump, outs_of, leave, follow, at_command, at_block, at_proc, at_frames, tick, tested, are_allowed, bad, with_local, with_variable, go_to, take_choice, begin, begin_in, first_frame, wants_of, turn, going, over, HasStatus}
+use Rattle.hy_val.specs.Stores.{holds, write, write_all}
 use Rattle.src_law.specs.Causes.{Place, HasConstsNotAllowed, IsAtFalseAssume, IsAtFalseAssert, IsAtFullCall, IsAtFullLoop, StatusesHaveCauses}
 use Rattle.src_law.specs.OpenLoops.{config_of, turned}
 use Rattle.src_law.proofs.Laps.{IsWay, way_is}

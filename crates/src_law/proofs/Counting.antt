@@ -9,7 +9,8 @@ use Rattle.hy_val.specs.declared.expr.ExprNode.{ExprNode}
 use Rattle.hy_val.specs.declared.expr.Var.{Var}
 use Rattle.hy_val.specs.declared.value.Value.{Value}
 use Rattle.src_prog.specs.Program.{Program}
-use Rattle.src_prog.specs.Scope.{sorts_of, sort_of_target}
+use Rattle.src_prog.specs.Scope.{sorts_of}
+use Rattle.hy_val.specs.Scope.{sort_of_target}
 use Rattle.src_prog.specs.Shape.{is_program, next_fits, target_fits, scope_of}
 use Rattle.src_prog.specs.declared.block.Cmd.{Cmd}
 use Rattle.src_prog.specs.declared.block.Cmd.TheVariants.{Assign, Havoc, Assume, Assert, Call}
@@ -18,14 +19,15 @@ use Rattle.src_prog.specs.declared.block.Next.TheVariants.{Goto, Return}
 use Rattle.src_prog.specs.declared.block.SrcBlock.{SrcBlock}
 use Rattle.src_prog.specs.declared.proc.SrcLoop.{SrcLoop}
 use Rattle.src_prog.specs.declared.proc.SrcProc.{SrcProc}
-use Rattle.src_run.proofs.Environments.{and-first, and-second, and-both}
+use Rattle.hy_val.proofs.Booleans.{and-first, and-second, and-both}
 use Rattle.src_run.proofs.Programs.{next_fits_in}
 use Rattle.src_run.proofs.Runs.{either_way}
 use Rattle.src_run.specs.declared.machine.Choice.{Choice}
 use Rattle.src_run.specs.declared.machine.Choice.TheVariants.{Go, Val}
 use Rattle.src_run.specs.declared.machine.Status.{Status}
 use Rattle.src_run.specs.declared.machine.Status.TheVariants.{Going, Ended, Failed, Blocked, Cut, BadChoice}
-use Rattle.src_run.specs.Machine.{Config, Frame, Lap, Want, Way, Again, Enter, Stay, Out, AConst, AGlobal, ALocal, AVariable, ATarget, Turn, Stands, GoesOn, with_status, env_of, holds, open_count, further, call, command, entry_of, way, land, land_outside, land_inside, arrive, loops_of, jump, outs_of, leave, follow, at_command, at_block, at_proc, at_frames, tick, tested, are_allowed, bad, with_local, with_variable, go_to, take_choice, begin, begin_in, first_frame, wants_of, turn, going, over, after, within, HasStatus}
+use Rattle.src_run.specs.Machine.{Config, Frame, Lap, Want, Way, Again, Enter, Stay, Out, AConst, AGlobal, ALocal, AVariable, ATarget, Turn, Stands, GoesOn, with_status, env_of, open_count, further, call, command, entry_of, way, land, land_outside, land_inside, arrive, loops_of, jump, outs_of, leave, follow, at_command, at_block, at_proc, at_frames, tick, tested, are_allowed, bad, with_local, with_variable, go_to, take_choice, begin, begin_in, first_frame, wants_of, turn, going, over, after, within, HasStatus}
+use Rattle.hy_val.specs.Stores.{holds}
 use Rattle.src_law.specs.OpenLoops.{CountsItsLoops, OpenLoopsAreCountedOnce, config_of, turned}
 use Rattle.src_law.proofs.Falling.{are_around, heads_differ}
 use Rattle.src_law.proofs.Fitting.{Fits, FrameFits, FramesFit, TargetsFit, first_fits, locals_fit, variables_fit, loops_fit_in, jump_fits, taken_fits, begin_fits}

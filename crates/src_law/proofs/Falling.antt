@@ -7,7 +7,7 @@ use Rattle.std.proofs.lemmas.List.{reverse-reverse}
 use Rattle.std.specs.List.{list_all, IsDistinct, AllByRecursion}
 use Rattle.src_prog.specs.Loops.{holds_block, is_apart_or_inside, are_nested}
 use Rattle.src_prog.specs.declared.proc.SrcLoop.{SrcLoop}
-use Rattle.src_run.proofs.Environments.{and-first, and-second}
+use Rattle.hy_val.proofs.Booleans.{and-first, and-second}
 use Rattle.src_run.specs.Machine.{Lap}
 use Rattle.src_law.specs.OpenLoops.{loop_of, loops_around}
 use Rattle.src_law.proofs.Nested.{IsLoop, first_nested}

@@ -12,7 +12,8 @@ use Rattle.src_prog.specs.Scope.{sorts_of, locals_of}
 use Rattle.src_prog.specs.Shape.{is_program, target_fits, loops_fit}
 use Rattle.src_prog.specs.declared.proc.SrcLoop.{SrcLoop}
 use Rattle.src_prog.specs.declared.proc.SrcProc.{SrcProc}
-use Rattle.src_run.proofs.Environments.{and-first, and-second, all-at}
+use Rattle.hy_val.proofs.Booleans.{and-first, and-second}
+use Rattle.hy_val.proofs.Booleans.{all-at}
 use Rattle.src_run.proofs.Programs.{proc_fits, proc_shape}
 use Rattle.src_run.proofs.Runs.{either_way}
 use Rattle.src_run.specs.declared.machine.Choice.{Choice}

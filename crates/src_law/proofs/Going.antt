@@ -10,7 +10,8 @@ use Rattle.hy_val.specs.declared.expr.ExprNode.{ExprNode}
 use Rattle.hy_val.specs.declared.expr.Var.{Var}
 use Rattle.hy_val.specs.declared.value.Value.{Value}
 use Rattle.src_prog.specs.Program.{Program}
-use Rattle.src_prog.specs.Scope.{sorts_of, sort_of_target}
+use Rattle.src_prog.specs.Scope.{sorts_of}
+use Rattle.hy_val.specs.Scope.{sort_of_target}
 use Rattle.src_prog.specs.Shape.{is_program, next_fits, target_fits, scope_of}
 use Rattle.src_prog.specs.declared.block.Cmd.{Cmd}
 use Rattle.src_prog.specs.declared.block.Cmd.TheVariants.{Assign, Havoc, Assume, Assert, Call}
@@ -18,13 +19,14 @@ use Rattle.src_prog.specs.declared.block.Next.{Next}
 use Rattle.src_prog.specs.declared.block.Next.TheVariants.{Goto, Return}
 use Rattle.src_prog.specs.declared.block.SrcBlock.{SrcBlock}
 use Rattle.src_prog.specs.declared.proc.SrcProc.{SrcProc}
-use Rattle.src_run.proofs.Environments.{and-first, and-second}
+use Rattle.hy_val.proofs.Booleans.{and-first, and-second}
 use Rattle.src_run.proofs.Programs.{next_fits_in}
 use Rattle.src_run.proofs.Runs.{either_way}
 use Rattle.src_run.specs.declared.machine.Choice.{Choice}
 use Rattle.src_run.specs.declared.machine.Status.{Status}
 use Rattle.src_run.specs.declared.machine.Status.TheVariants.{Going, Failed, Blocked, Cut}
-use Rattle.src_run.specs.Machine.{Config, Frame, Want, ATarget, with_status, env_of, holds, open_count, further, locals_wanted, call, command, land, jump, outs_of, leave, follow, at_command, tick, take_choice, begin, HasStatus}
+use Rattle.src_run.specs.Machine.{Config, Frame, Want, ATarget, with_status, env_of, open_count, further, locals_wanted, call, command, land, jump, outs_of, leave, follow, at_command, tick, take_choice, begin, HasStatus}
+use Rattle.hy_val.specs.Stores.{holds}
 use Rattle.src_law.proofs.Nested.{Edge, IsLoop}
 use Rattle.src_law.proofs.Laps.{LapsFit, Lands}
 use Rattle.src_law.proofs.Rounds.{rounds_left, forward, backward}

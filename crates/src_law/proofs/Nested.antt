@@ -4,7 +4,7 @@ use Rattle.std.proofs.lemmas.Bool.Decides.{nat_tests}
 use Rattle.std.specs.List.{list_all}
 use Rattle.src_prog.specs.Loops.{holds_block, loop_is_within, is_apart_or_inside, are_nested, goes_back, enters_at_head, edge_fits}
 use Rattle.src_prog.specs.declared.proc.SrcLoop.{SrcLoop}
-use Rattle.src_run.proofs.Environments.{and-first, and-second}
+use Rattle.hy_val.proofs.Booleans.{and-first, and-second}
 
 -- one of the loops has this head and this exit
 abbrev pub IsLoop : List SrcLoop → (head exit : ℕ) → Type 0

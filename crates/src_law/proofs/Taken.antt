@@ -16,7 +16,8 @@ use Rattle.src_run.proofs.Runs.{either_way}
 use Rattle.src_run.specs.declared.machine.Choice.{Choice}
 use Rattle.src_run.specs.declared.machine.Choice.TheVariants.{Go, Val}
 use Rattle.src_run.specs.declared.machine.Status.TheVariants.{Going, Blocked, Cut, Failed, BadChoice}
-use Rattle.src_run.specs.Machine.{Config, Frame, Lap, Want, Way, Again, Enter, Stay, Out, AConst, AGlobal, ALocal, AVariable, ATarget, with_status, env_of, holds, open_count, call, command, entry_of, way, land_outside, land_inside, arrive, loops_of, jump, outs_of, leave, follow, at_command, at_block, at_proc, at_frames, tick, tested, are_allowed, with_variable, go_to, take_choice, begin, begin_in, first_frame, wants_of}
+use Rattle.src_run.specs.Machine.{Config, Frame, Lap, Want, Way, Again, Enter, Stay, Out, AConst, AGlobal, ALocal, AVariable, ATarget, with_status, env_of, open_count, call, command, entry_of, way, land_outside, land_inside, arrive, loops_of, jump, outs_of, leave, follow, at_command, at_block, at_proc, at_frames, tick, tested, are_allowed, with_variable, go_to, take_choice, begin, begin_in, first_frame, wants_of}
+use Rattle.hy_val.specs.Stores.{holds}
 use Rattle.src_law.specs.Statuses.{AreTaken}
 
 -- no choice was bad

@@ -11,7 +11,8 @@ use Rattle.src_prog.specs.declared.block.SrcBlock.{SrcBlock}
 use Rattle.src_prog.specs.declared.proc.SrcProc.{SrcProc}
 use Rattle.src_run.specs.declared.machine.Choice.{Choice}
 use Rattle.src_run.specs.declared.machine.Status.TheVariants.{Ended, Failed, Blocked, Cut}
-use Rattle.src_run.specs.Machine.{Config, Frame, Lap, env_of, holds, open_count, are_allowed, HasStatus}
+use Rattle.src_run.specs.Machine.{Config, Frame, Lap, env_of, open_count, are_allowed, HasStatus}
+use Rattle.hy_val.specs.Stores.{holds}
 
 -- where the innermost frame is: its procedure, the block, and the next command, none at the block's end
 pub record Place (prog : Program) (c : Config) : Type 0 where

@@ -5,7 +5,8 @@ use Rattle.hy_val.specs.Values.{has_sort}
 use Rattle.hy_val.specs.declared.sort.Sort.{Sort}
 use Rattle.hy_val.specs.declared.value.Value.{Value}
 use Rattle.src_prog.specs.Program.{Program}
-use Rattle.src_prog.specs.Scope.{sorts_of, locals_of, sort_of_target}
+use Rattle.src_prog.specs.Scope.{sorts_of, locals_of}
+use Rattle.hy_val.specs.Scope.{sort_of_target}
 use Rattle.src_prog.specs.Shape.{is_program, scope_of}
 use Rattle.src_prog.specs.declared.proc.SrcProc.{SrcProc}
 use Rattle.src_run.specs.declared.machine.Choice.{Choice}

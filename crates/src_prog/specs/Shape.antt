@@ -1,20 +1,17 @@
 -- The facts that the type of programs keeps.
-use Rattle.std.specs.Prelude.{ℕ, ◌+◌, ◌^◌, Bool, true, ◌&&◌, nat_lt, nat_le, List, [], ◌∷◌, length}
+use Rattle.std.specs.Prelude.{ℕ, ◌+◌, Bool, true, ◌&&◌, nat_lt, List, [], ◌∷◌, length}
 use Rattle.std.specs.List.{list_all}
 use Rattle.hy_val.specs.NodeSorts.{is_sort}
 use Rattle.src_prog.specs.Loops.{loop_is_within, are_nested, edge_fits}
 use Rattle.src_prog.specs.Program.{Program}
-use Rattle.src_prog.specs.Scope.{Scope, sorts_of, locals_of, is_condition, cmd_fits}
+use Rattle.hy_val.specs.Scope.{are_numbered, ascend_from, Scope, is_condition}
+use Rattle.src_prog.specs.Scope.{sorts_of, locals_of, cmd_fits}
 use Rattle.src_prog.specs.declared.block.Next.{Next}
 use Rattle.src_prog.specs.declared.block.Next.TheVariants.{Goto, Return}
 use Rattle.src_prog.specs.declared.block.SrcBlock.{SrcBlock}
 use Rattle.src_prog.specs.declared.proc.Named.{Named}
 use Rattle.src_prog.specs.declared.proc.SrcLoop.{SrcLoop}
 use Rattle.src_prog.specs.declared.proc.SrcProc.{SrcProc}
-
--- numbers of 32 bits name so many
-abbrev pub are_numbered : ℕ → Bool
-are_numbered count = nat_lt count (2 ^ 32)
 
 abbrev pub names_fit : List Named → Bool
 names_fit names = are_numbered (length names) && list_all (λ n. is_sort n.sort) names
@@ -51,11 +48,6 @@ is_procedure prog proc =
     && (loops_fit proc && blocks_fit prog.procs (scope_of prog proc) proc.loops (length proc.blocks) 0 proc.blocks))
 
 -- ---- programs
-
--- each is below a bound, and they ascend
-abbrev pub ascend_from : ℕ → ℕ → List ℕ → Bool
-ascend_from least bound [] = true
-ascend_from least bound (n ∷ ns) = nat_le least n && (nat_lt n bound && ascend_from (n + 1) bound ns)
 
 abbrev pub constant_scope : Program → Scope
 constant_scope prog = record { consts = sorts_of prog.consts; globals = []; locals = [] }

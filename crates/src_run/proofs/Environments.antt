@@ -2,6 +2,8 @@
 use Rattle.std.proofs.Common.{◌≡◌, ℕ, zero, suc, ◌+◌, ◌-◌, ◌≤◌, nat_le, Bool, true, false, not, ◌&&◌, List, [], ◌∷◌, length, map, take, drop, slice_get, slice_set, Option, None, Some, arith, sym, ◌∙◌, ap, refl, subst, IsTrue}
 use Rattle.std.specs.List.{list_all}
 use Rattle.std.proofs.lemmas.Bool.Decides.{nat_tests}
+use Rattle.hy_val.proofs.Booleans.{and-first, and-second, and-both, all-at}
+use Rattle.hy_val.proofs.Scopes.{AreThere, reads_expr, pairs_read}
 use Rattle.hy_val.specs.Exprs.{eval, reads, node_reads, is_there, variable}
 use Rattle.hy_val.specs.Laws.{EachNodeHasItsSort}
 use Rattle.hy_val.specs.NodeSorts.{same_sort}
@@ -15,7 +17,8 @@ use Rattle.hy_val.specs.declared.sort.ScalarKind.TheVariants.{Bool as BoolSort, 
 use Rattle.hy_val.specs.declared.sort.Sort.{Sort}
 use Rattle.hy_val.specs.declared.sort.SortKind.TheVariants.{Scalar as ScalarSort, Map as MapSort}
 use Rattle.hy_val.specs.declared.value.Value.{Value}
-use Rattle.src_prog.specs.Scope.{Scope, cmd_fits, node_fits, expr_fits, is_condition, is_sort_of, are_same, sort_of_variable, sort_of_target, sort_of_expr, pair_fits}
+use Rattle.hy_val.specs.Scope.{Scope, node_fits, expr_fits, is_condition, is_sort_of, are_same, sort_of_variable, sort_of_target, sort_of_expr, pair_fits}
+use Rattle.src_prog.specs.Scope.{cmd_fits}
 use Rattle.src_prog.specs.declared.block.Cmd.{Cmd}
 use Rattle.src_prog.specs.declared.block.Cmd.TheVariants.{Assign, Havoc, Assume, Assert}
 use Rattle.src_prog.specs.declared.proc.SrcProc.{SrcProc}
@@ -23,18 +26,6 @@ use Rattle.src_run.specs.Plain.{is_call}
 use Rattle.src_run.specs.Running.{bool_sort, bool_value, are_bool_values, Bools, CanRun, written, all_written, StepIs, HavocedTo}
 use Rattle.src_run.specs.declared.running.Stepped.{Stepped}
 use Rattle.src_run.specs.declared.running.Stepped.TheVariants.{On, Over}
-
-pub and-first : (a b : Bool) → (a && b) ≡ true → a ≡ true
-and-first true b h = refl
-and-first false b h = h
-
-pub and-second : (a b : Bool) → (a && b) ≡ true → b ≡ true
-and-second true b h = h
-and-second false b h = cc
-
-pub and-both : (a b : Bool) → a ≡ true → b ≡ true → (a && b) ≡ true
-and-both true b h k = k
-and-both false b h k = h
 
 -- ---- sorts of bools
 
@@ -48,12 +39,6 @@ pub same_as_bool : (s : Sort) → same_sort bool_sort s ≡ true → s ≡ bool_
 same_as_bool (ScalarSort BoolSort) h = refl
 same_as_bool (ScalarSort (BvSort w)) h = cc
 same_as_bool (MapSort index elem) h = cc
-
--- every item of a list that is there has what all have
-pub all-at : {A : Type 0} (p : A → Bool) (xs : List A) (n : ℕ) (x : A) → list_all p xs ≡ true → slice_get xs n ≡ Some x → p x ≡ true
-all-at p [] n x h e = cc
-all-at p (y ∷ ys) zero x h e = let same : y ≡ x = cc in subst (λ z. p z ≡ true) same (and-first (p y) (list_all p ys) h)
-all-at p (y ∷ ys) (suc n) x h e = all-at p ys n x (and-second (p y) (list_all p ys) h) e
 
 -- a list of the same length has an item at the same place
 there : {A B : Type 0} (xs : List A) (ys : List B) (n : ℕ) (x : A) → length xs ≡ length ys → slice_get xs n ≡ Some x → (y : B) × (slice_get ys n ≡ Some y)
@@ -76,10 +61,6 @@ found s ss vs n bools values same fits = at (slice_get ss n) refl fits
         let s_is : s ≡ bool_sort = same_as_bool s (subst (λ (u : Sort). same_sort u s ≡ true) bool h) in
         ap (λ o. is_there o s) value.1 ∙ subst (λ (u : Sort). has_sort value.0 u ≡ true) (sym s_is) has
 
--- each variable of the scope is in the environment, with its sort
-abbrev pub AreThere : Scope → Env → Type 0
-AreThere scope env = (x : Var) (s : Sort) → is_sort_of (sort_of_variable scope x) s ≡ true → is_there (variable env x) s ≡ true
-
 reads_variable : (scope : Scope) (env : Env) → Bools scope env → AreThere scope env
 reads_variable scope env b (Const n) s h = none scope.consts b.consts h
   where
@@ -89,34 +70,12 @@ reads_variable scope env b (Const n) s h = none scope.consts b.consts h
 reads_variable scope env b (Global n) s h = found s scope.globals env.globals n b.global_sorts b.globals b.globals_count h
 reads_variable scope env b (Local n) s h = found s scope.locals env.locals n b.local_sorts b.locals b.locals_count h
 
-reads_node : (scope : Scope) (env : Env) → AreThere scope env → (node : ExprNode) → node_fits scope node ≡ true → node_reads env node ≡ true
-reads_node scope env there (Lit a) h = refl
-reads_node scope env there (Read x sort) h = there x sort h
-reads_node scope env there (Unary op child) h = refl
-reads_node scope env there (Binary op left right) h = refl
-reads_node scope env there (If test one other) h = refl
-reads_node scope env there (Select map index) h = refl
-reads_node scope env there (Store map index value) h = refl
-
-reads_all : (scope : Scope) (env : Env) → AreThere scope env → (nodes : List ExprNode) → list_all (node_fits scope) nodes ≡ true → reads env nodes ≡ true
-reads_all scope env there [] h = refl
-reads_all scope env there (node ∷ nodes) h =
-    and-both (node_reads env node) (reads env nodes) (reads_node scope env there node (and-first (node_fits scope node) _ h)) (reads_all scope env there nodes (and-second (node_fits scope node) _ h))
-
-pub reads_expr : (scope : Scope) (env : Env) → AreThere scope env → (sort : Option Sort) (nodes : List ExprNode) → expr_fits scope sort nodes ≡ true → reads env nodes ≡ true
-reads_expr scope env there sort nodes h = reads_all scope env there nodes (and-first (list_all (node_fits scope) nodes) _ h)
-
 pub assume_reads : (procs : List SrcProc) (expr : List ExprNode) (cmds : List Cmd) (env : Env) → CanRun procs (Assume expr ∷ cmds) env → IsTrue (reads env expr)
 assume_reads procs expr cmds env c = reads_expr c.scope env (reads_variable c.scope env c.bools) (Some bool_sort) expr (and-first (is_condition c.scope expr) _ c.fit)
 
 pub assert_reads : (procs : List SrcProc) (number : ℕ) (expr : List ExprNode) (cmds : List Cmd) (env : Env) → CanRun procs (Assert number expr ∷ cmds) env → IsTrue (reads env expr)
 assert_reads procs number expr cmds env c =
     reads_expr c.scope env (reads_variable c.scope env c.bools) (Some bool_sort) expr (and-second (nat_le 1 number) (is_condition c.scope expr) (and-first (nat_le 1 number && is_condition c.scope expr) _ c.fit))
-
-pub pairs_read : (scope : Scope) (env : Env) → AreThere scope env → (pairs : List (Var × List ExprNode)) → list_all (pair_fits scope) pairs ≡ true → list_all (λ (p : Var × List ExprNode). reads env p.1) pairs ≡ true
-pairs_read scope env there [] h = refl
-pairs_read scope env there (p ∷ ps) h =
-    and-both (reads env p.1) (list_all (λ (q : Var × List ExprNode). reads env q.1) ps) (reads_expr scope env there (sort_of_target scope p.0) p.1 (and-first (pair_fits scope p) _ h)) (pairs_read scope env there ps (and-second (pair_fits scope p) _ h))
 
 pub assign_reads : (procs : List SrcProc) (pairs : List (Var × List ExprNode)) (cmds : List Cmd) (env : Env) → CanRun procs (Assign pairs ∷ cmds) env → IsTrue (list_all (λ (p : Var × List ExprNode). reads env p.1) pairs)
 assign_reads procs pairs cmds env c = pairs_read c.scope env (reads_variable c.scope env c.bools) pairs (and-first (list_all (pair_fits c.scope) pairs) _ c.fit)

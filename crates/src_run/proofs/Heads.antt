@@ -10,7 +10,7 @@ use Rattle.src_prog.specs.declared.proc.SrcLoop.{SrcLoop}
 use Rattle.src_prog.specs.declared.proc.SrcProc.{SrcProc}
 use Rattle.src_run.specs.Edges.{is_below, entry_at}
 use Rattle.src_run.specs.Machine.{Stay, entry_of}
-use Rattle.src_run.proofs.Environments.{and-first, and-second}
+use Rattle.hy_val.proofs.Booleans.{and-first, and-second}
 use Rattle.src_run.proofs.Programs.{proc_fits, proc_shape}
 use Rattle.src_run.proofs.Takes.{drop_some, drop_none}
 

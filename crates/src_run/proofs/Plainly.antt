@@ -12,7 +12,8 @@ use Rattle.hy_val.specs.declared.expr.Var.{Var}
 use Rattle.hy_val.specs.declared.sort.Sort.{Sort}
 use Rattle.hy_val.specs.declared.value.Value.{Value}
 use Rattle.src_prog.specs.Program.{Program}
-use Rattle.src_prog.specs.Scope.{Scope, cmd_fits, sort_of_target, is_target, pair_fits, are_same}
+use Rattle.hy_val.specs.Scope.{Scope, sort_of_target, is_target, pair_fits, are_same}
+use Rattle.src_prog.specs.Scope.{cmd_fits}
 use Rattle.src_prog.specs.Shape.{scope_of}
 use Rattle.src_prog.specs.declared.block.Cmd.{Cmd}
 use Rattle.src_prog.specs.declared.block.Cmd.TheVariants.{Assign, Havoc, Assume, Assert, Call}
@@ -22,12 +23,14 @@ use Rattle.src_prog.specs.declared.proc.SrcProc.{SrcProc}
 use Rattle.src_run.specs.declared.machine.Choice.{Choice}
 use Rattle.src_run.specs.declared.machine.Status.{Status}
 use Rattle.src_run.specs.declared.machine.Status.TheVariants.{Going, Ended, Failed, Blocked, Cut, BadChoice}
-use Rattle.src_run.specs.Machine.{Config, Frame, Store, Want, AGlobal, ALocal, AVariable, Stands, tick, bad, turn, over, within, Comes, holds, command, with_status}
+use Rattle.src_run.specs.Machine.{Config, Frame, Want, AGlobal, ALocal, AVariable, Stands, tick, bad, turn, over, within, Comes, command, with_status}
+use Rattle.hy_val.specs.Stores.{Store, holds}
 use Rattle.src_run.specs.Plain.{is_without_call}
 use Rattle.src_run.specs.Running.{Leads, StandsBehind, wants_bool, at_cmd, bool_sort, bool_value, Bools, written, all_written, ending, run_of}
 use Rattle.src_run.specs.Search.{bool_choice, bool_choices}
 use Rattle.src_run.proofs.Stacked.{stores_agree, consts_stay}
-use Rattle.src_run.proofs.Environments.{and-first, and-second, is-bool, bools_written, bools_all_written, bools_are, values_bool, target_bool}
+use Rattle.hy_val.proofs.Booleans.{and-first, and-second}
+use Rattle.src_run.proofs.Environments.{is-bool, bools_written, bools_all_written, bools_are, values_bool, target_bool}
 use Rattle.src_run.proofs.Runs.{leads_tick, leads_choice, stands_behind}
 
 -- ---- ends

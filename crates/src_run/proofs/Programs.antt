@@ -2,13 +2,16 @@
 use Rattle.std.proofs.Common.{◌≡◌, ℕ, zero, suc, ◌+◌, nat_lt, true, ◌&&◌, List, [], ◌∷◌, length, slice_get, Some, arith}
 use Rattle.std.specs.List.{list_all}
 use Rattle.src_prog.specs.Program.{Program}
-use Rattle.src_prog.specs.Scope.{Scope, locals_of, cmd_fits, is_condition}
-use Rattle.src_prog.specs.Shape.{is_program, is_procedure, next_fits, block_fits, blocks_fit, scope_of, loops_fit, names_fit, are_numbered, ascend_from, constant_scope}
+use Rattle.hy_val.specs.Scope.{Scope, is_condition}
+use Rattle.src_prog.specs.Scope.{locals_of, cmd_fits}
+use Rattle.src_prog.specs.Shape.{is_program, is_procedure, next_fits, block_fits, blocks_fit, scope_of, loops_fit, names_fit, constant_scope}
+use Rattle.hy_val.specs.Scope.{are_numbered, ascend_from}
 use Rattle.src_prog.specs.declared.block.Cmd.{Cmd}
 use Rattle.src_prog.specs.declared.block.SrcBlock.{SrcBlock}
 use Rattle.src_prog.specs.declared.proc.SrcLoop.{SrcLoop}
 use Rattle.src_prog.specs.declared.proc.SrcProc.{SrcProc}
-use Rattle.src_run.proofs.Environments.{and-first, and-second, all-at}
+use Rattle.hy_val.proofs.Booleans.{and-first, and-second}
+use Rattle.hy_val.proofs.Booleans.{all-at}
 
 -- ---- procedures
 

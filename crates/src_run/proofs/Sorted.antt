@@ -3,6 +3,7 @@ use Rattle.std.proofs.Common.{◌≡◌, ℕ, zero, suc, ◌+◌, ◌-◌, ◌<�
 use Rattle.std.specs.List.{list_all}
 use Rattle.std.proofs.lemmas.Bool.Decides.{nat_tests}
 use Rattle.std.proofs.lemmas.List.{length-map}
+use Rattle.hy_val.proofs.Scopes.{is_sort_of_is, fitting_sorted}
 use Rattle.hy_val.proofs.Lawful.{has_its_sort}
 use Rattle.hy_val.proofs.ResultSorts.{same_scalar_is}
 use Rattle.hy_val.specs.Exprs.{eval, reads, is_there, variable}
@@ -17,33 +18,18 @@ use Rattle.hy_val.specs.declared.sort.Sort.{Sort}
 use Rattle.hy_val.specs.declared.sort.SortKind.TheVariants.{Scalar as ScalarSort, Map as MapSort}
 use Rattle.hy_val.specs.declared.value.Value.{Value}
 use Rattle.src_prog.specs.Program.{Program}
-use Rattle.src_prog.specs.Scope.{Scope, sorts_of, locals_of, sort_of_variable, is_sort_of, are_same, node_fits, sort_of_expr, expr_fits, is_condition, args_fit, call_fits, cmd_fits}
-use Rattle.src_prog.specs.Shape.{is_program, scope_of, constant_scope, ascend_from}
+use Rattle.hy_val.specs.Scope.{Scope, sort_of_variable, is_sort_of, are_same, node_fits, sort_of_expr, expr_fits, is_condition}
+use Rattle.src_prog.specs.Scope.{sorts_of, locals_of, args_fit, call_fits, cmd_fits}
+use Rattle.src_prog.specs.Shape.{is_program, scope_of, constant_scope}
+use Rattle.hy_val.specs.Scope.{ascend_from}
 use Rattle.src_prog.specs.declared.block.Cmd.TheVariants.{Assign, Assume, Assert, Call}
 use Rattle.src_prog.specs.declared.proc.Named.{Named}
 use Rattle.src_prog.specs.declared.proc.SrcProc.{SrcProc}
-use Rattle.src_run.proofs.Environments.{and-first, and-second, and-both, reads_expr, pairs_read}
+use Rattle.hy_val.proofs.Booleans.{and-first, and-second, and-both}
+use Rattle.hy_val.proofs.Scopes.{reads_expr, pairs_read}
 use Rattle.src_run.proofs.Programs.{axioms_fit, uniques_ascend}
 use Rattle.src_run.specs.Machine.{Config, Frame, Want, AConst, AGlobal, ALocal, env_of}
 use Rattle.src_run.specs.Sorted.{HaveSorts, HasVariables, AreFrames, AreSorted, AreComplete, AsksForNone, AsksForNoConst}
-
--- ---- equal sorts
-
-same_sort_is : (s t : Sort) → same_sort s t ≡ true → s ≡ t
-same_sort_is (ScalarSort s) (ScalarSort t) h = ap ScalarSort (same_scalar_is s t h)
-same_sort_is (ScalarSort s) (MapSort i e) h = cc
-same_sort_is (MapSort i e) (ScalarSort t) h = cc
-same_sort_is (MapSort i e) (MapSort j f) h =
-    ap (λ x. MapSort x e) (same_scalar_is i j (and-first (same_scalar i j) (same_scalar e f) h)) ∙ ap (λ y. MapSort j y) (same_scalar_is e f (and-second (same_scalar i j) (same_scalar e f) h))
-
-pub is_sort_of_is : (o : Option Sort) (s : Sort) → is_sort_of o s ≡ true → o ≡ Some s
-is_sort_of_is None s h = cc
-is_sort_of_is (Some t) s h = ap Some (same_sort_is t s h)
-
--- an expression of a sort that may not be there has one, and it is this
-pub are_same_is : (o p : Option Sort) → are_same o p ≡ true → (s : Sort) × (o ≡ Some s) × (p ≡ Some s)
-are_same_is None p h = cc
-are_same_is (Some s) p h = (s, refl, is_sort_of_is p s h)
 
 -- ---- values of sorts
 
@@ -72,9 +58,7 @@ module _ (scope : Scope) (env : Env) (has : HasVariables scope env) where
 
   -- its value has the sort that it should have, which is there
   pub expr_sorted : (sort : Option Sort) (nodes : List ExprNode) → expr_fits scope sort nodes ≡ true → (s : Sort) × (sort ≡ Some s) × (has_sort (eval env nodes) s ≡ true)
-  expr_sorted sort nodes h =
-      let (s, own, is) = are_same_is (sort_of_expr nodes) sort (and-second (list_all (node_fits scope) nodes) _ h) in
-      (s, is, has_its_sort env nodes (length nodes - 1) s (expr_reads sort nodes h) own)
+  expr_sorted sort nodes h = fitting_sorted scope env variable_there sort nodes h
 
   pub expr_has_sort : (s : Sort) (nodes : List ExprNode) → expr_fits scope (Some s) nodes ≡ true → has_sort (eval env nodes) s ≡ true
   expr_has_sort s nodes h =

@@ -12,7 +12,8 @@ use Rattle.hy_val.specs.declared.expr.Var.TheVariants.{Const, Global, Local}
 use Rattle.hy_val.specs.declared.sort.Sort.{Sort}
 use Rattle.hy_val.specs.declared.value.Value.{Value}
 use Rattle.src_prog.specs.Program.{Program}
-use Rattle.src_prog.specs.Scope.{Scope, sorts_of, locals_of, sort_of_target, is_sort_of, expr_fits, args_fit, targets_fit, pair_fits, call_fits, cmd_fits}
+use Rattle.hy_val.specs.Scope.{Scope, sort_of_target, is_sort_of, expr_fits, pair_fits}
+use Rattle.src_prog.specs.Scope.{sorts_of, locals_of, args_fit, targets_fit, call_fits, cmd_fits}
 use Rattle.src_prog.specs.Shape.{is_program, scope_of}
 use Rattle.src_prog.specs.declared.block.Cmd.{Cmd}
 use Rattle.src_prog.specs.declared.block.Cmd.TheVariants.{Assign, Havoc, Assume, Assert, Call}
@@ -22,15 +23,17 @@ use Rattle.src_prog.specs.declared.block.SrcBlock.{SrcBlock}
 use Rattle.src_prog.specs.declared.proc.Named.{Named}
 use Rattle.src_prog.specs.declared.proc.SrcLoop.{SrcLoop}
 use Rattle.src_prog.specs.declared.proc.SrcProc.{SrcProc}
-use Rattle.src_run.proofs.Environments.{and-first, and-second}
+use Rattle.hy_val.proofs.Booleans.{and-first, and-second}
 use Rattle.src_run.proofs.Programs.{cmd_fits_in}
 use Rattle.src_run.proofs.Runs.{either_way}
-use Rattle.src_run.proofs.Sorted.{is_sort_of_is, expr_sorted, expr_has_sort, complete, has_variables}
+use Rattle.hy_val.proofs.Scopes.{is_sort_of_is}
+use Rattle.src_run.proofs.Sorted.{expr_sorted, expr_has_sort, complete, has_variables}
 use Rattle.src_run.specs.declared.machine.Choice.{Choice}
 use Rattle.src_run.specs.declared.machine.Choice.TheVariants.{Go, Val}
 use Rattle.src_run.specs.declared.machine.Status.{Status}
 use Rattle.src_run.specs.declared.machine.Status.TheVariants.{Going, Ended, Failed, Blocked, Cut, BadChoice}
-use Rattle.src_run.specs.Machine.{Config, Frame, Lap, Store, Want, Way, Again, Enter, Stay, Out, AConst, AGlobal, ALocal, AVariable, ATarget, Turn, Stands, GoesOn, with_status, env_of, holds, write, write_all, store_of, put, open_count, further, locals_wanted, call, command, entry_of, way, land, land_outside, land_inside, arrive, loops_of, jump, outs_of, leave, follow, at_command, at_block, at_proc, at_frames, tick, tested, are_allowed, bad, with_local, with_variable, go_to, take_choice, begin, first_frame, wants_of, turn, going, over}
+use Rattle.src_run.specs.Machine.{Config, Frame, Lap, Want, Way, Again, Enter, Stay, Out, AConst, AGlobal, ALocal, AVariable, ATarget, Turn, Stands, GoesOn, with_status, env_of, store_of, put, open_count, further, locals_wanted, call, command, entry_of, way, land, land_outside, land_inside, arrive, loops_of, jump, outs_of, leave, follow, at_command, at_block, at_proc, at_frames, tick, tested, are_allowed, bad, with_local, with_variable, go_to, take_choice, begin, first_frame, wants_of, turn, going, over}
+use Rattle.hy_val.specs.Stores.{Store, holds, write, write_all}
 use Rattle.src_run.specs.Sorted.{HaveSorts, HasVariables, IsFrameOf, AreCallers, AreFrames, AreChangesIn, AreChanges, AreSorted, AreComplete, AsksForNone}
 
 -- ---- values of sorts

@@ -12,7 +12,8 @@ use Rattle.src_run.specs.declared.state.Caller.{Caller}
 use Rattle.src_run.specs.declared.state.OpenLoop.{OpenLoop}
 use Rattle.src_run.specs.declared.state.State.{State}
 use Rattle.src_run.specs.declared.machine.Status.TheVariants.{Ended}
-use Rattle.src_run.specs.Machine.{Frame, Lap, ALocal, open_count, write_all, store_of, put, further, leave}
+use Rattle.src_run.specs.Machine.{Frame, Lap, ALocal, open_count, store_of, put, further, leave}
+use Rattle.hy_val.specs.Stores.{write_all}
 use Rattle.src_run.specs.Running.{written, all_written}
 use Rattle.src_run.specs.State.{want_of, lap_of, laps_onto, laps_of, frame_of, frames_onto, callers_of, top_of, config_of}
 use Rattle.src_run.specs.Stepping.{open_callers, opened}

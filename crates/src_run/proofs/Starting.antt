@@ -13,7 +13,8 @@ use Rattle.hy_val.specs.declared.sort.Sort.{Sort}
 use Rattle.hy_val.specs.declared.sort.SortKind.TheVariants.{Scalar as ScalarSort, Map as MapSort}
 use Rattle.src_prog.specs.Program.{Program}
 use Rattle.src_prog.specs.Scope.{cmd_fits, sorts_of, locals_of}
-use Rattle.src_prog.specs.Shape.{is_program, scope_of, ascend_from}
+use Rattle.src_prog.specs.Shape.{is_program, scope_of}
+use Rattle.hy_val.specs.Scope.{ascend_from}
 use Rattle.src_prog.specs.declared.block.Cmd.{Cmd}
 use Rattle.src_prog.specs.declared.block.Cmd.TheVariants.{Assign, Havoc, Assume, Assert, Call}
 use Rattle.src_prog.specs.declared.block.Next.{Next}
@@ -22,11 +23,13 @@ use Rattle.src_prog.specs.declared.block.SrcBlock.{SrcBlock}
 use Rattle.src_prog.specs.declared.proc.Named.{Named}
 use Rattle.src_prog.specs.declared.proc.SrcProc.{SrcProc}
 use Rattle.src_run.specs.declared.machine.Status.TheVariants.{Going, Ended, Failed, Blocked, BadChoice}
-use Rattle.src_run.specs.Machine.{Config, AConst, AGlobal, ALocal, tested, are_allowed, begin, begin_in, wants_of, holds}
+use Rattle.src_run.specs.Machine.{Config, AConst, AGlobal, ALocal, tested, are_allowed, begin, begin_in, wants_of}
+use Rattle.hy_val.specs.Stores.{holds}
 use Rattle.src_run.specs.Plain.{is_plain, is_plain_entry, is_plain_proc, have_plain_block, is_plain_block, are_bools, is_bool, is_empty, is_without_call, asked, asked_by_all, returns}
 use Rattle.src_run.specs.Running.{Leads, StandsBehind, RunsTo, CanStart, at_cmd, all_written, bool_value, Bools, ending, run_of, first_env, first_cmds, status_in}
 use Rattle.src_run.specs.Search.{bool_choice, bool_choices}
-use Rattle.src_run.proofs.Environments.{and-first, and-second, bools_are}
+use Rattle.hy_val.proofs.Booleans.{and-first, and-second}
+use Rattle.src_run.proofs.Environments.{bools_are}
 use Rattle.src_run.proofs.Plainly.{Entry, asking, filled_globals, fill_globals, fill_locals, short_globals, short_locals, cmds_run, drop_length, drop_drop}
 use Rattle.src_run.proofs.Programs.{block_fits_in, uniques_ascend}
 use Rattle.src_run.proofs.Runs.{stands_behind}

@@ -22,9 +22,10 @@ use Rattle.src_run.specs.declared.machine.Choice.{Choice}
 use Rattle.src_run.specs.declared.machine.Status.TheVariants.{Blocked}
 use Rattle.src_run.specs.declared.state.Asked.{Asked}
 use Rattle.src_run.specs.Choosing.{is_const, asks_const, CanTest, CanTake, CanAccept, TakenFor}
-use Rattle.src_run.specs.Machine.{Config, Want, AConst, AGlobal, ALocal, AVariable, ATarget, same_atom, same_pairs, same_value, are_allowed, tested, with_status}
+use Rattle.src_run.specs.Machine.{Config, Want, AConst, AGlobal, ALocal, AVariable, ATarget, are_allowed, tested, with_status}
+use Rattle.hy_val.specs.Stores.{same_atom, same_pairs, same_value}
 use Rattle.src_run.specs.State.{want_of}
-use Rattle.src_run.proofs.Environments.{and-first, and-second, and-both}
+use Rattle.hy_val.proofs.Booleans.{and-first, and-second, and-both}
 use Rattle.src_run.proofs.Runs.{either_way}
 
 -- ---- equal values

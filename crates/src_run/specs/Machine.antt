@@ -1,22 +1,19 @@
 -- The machine on a list of choices (This is Boogie 2, commands and their runs; the choices and the bound are this project's own).
 -- A configuration is a status, the constants' and globals' values, what is still asked for, and the open frames, innermost first. One choice is
 -- taken at a time, and then the run goes on by single steps until a choice is asked for or it is over.
-use Rattle.std.specs.Prelude.{◌≡◌, ℕ, zero, suc, ◌+◌, nat_eq, nat_lt, Bool, true, false, not, ◌&&◌, List, [], ◌∷◌, ◌++◌, map, length, take, drop, filter, slice_get, slice_set, Option, None, Some, if◌then◌else◌}
+use Rattle.std.specs.Prelude.{◌≡◌, ℕ, zero, suc, ◌+◌, nat_eq, nat_lt, Bool, true, false, ◌&&◌, List, [], ◌∷◌, ◌++◌, map, length, take, drop, filter, slice_get, Option, None, Some, if◌then◌else◌}
 use Rattle.std.specs.List.{list_all}
 use Rattle.hy_val.specs.Exprs.{eval}
-use Rattle.hy_val.specs.Sorts.{same_scalar}
-use Rattle.hy_val.specs.Values.{at, has_sort, is_on}
-use Rattle.hy_val.specs.declared.atom.Atom.{Atom}
-use Rattle.hy_val.specs.declared.atom.AtomKind.TheVariants.{Bool as BoolAtom, Bv as BvAtom}
+use Rattle.hy_val.specs.Scope.{sort_of_target}
+use Rattle.hy_val.specs.Stores.{Store, holds, write, write_all, all_differ}
+use Rattle.hy_val.specs.Values.{has_sort}
 use Rattle.hy_val.specs.declared.expr.Env.{Env}
 use Rattle.hy_val.specs.declared.expr.ExprNode.{ExprNode}
 use Rattle.hy_val.specs.declared.expr.Var.{Var}
-use Rattle.hy_val.specs.declared.expr.Var.TheVariants.{Const, Global, Local}
 use Rattle.hy_val.specs.declared.sort.Sort.{Sort}
 use Rattle.hy_val.specs.declared.value.Value.{Value}
-use Rattle.hy_val.specs.declared.value.Value.TheVariants.{Atom as AtomValue, Map as MapValue}
 use Rattle.src_prog.specs.Program.{Program}
-use Rattle.src_prog.specs.Scope.{sorts_of, locals_of, sort_of_target}
+use Rattle.src_prog.specs.Scope.{sorts_of, locals_of}
 use Rattle.src_prog.specs.Shape.{scope_of}
 use Rattle.src_prog.specs.declared.block.Cmd.{Cmd}
 use Rattle.src_prog.specs.declared.block.Cmd.TheVariants.{Assign, Havoc, Assume, Assert, Call}
@@ -69,25 +66,7 @@ with_status c status = record c { status = status }
 abbrev pub env_of : Config → Frame → Env
 env_of c f = record { consts = c.consts; globals = c.globals; locals = f.locals }
 
-abbrev pub holds : Env → List ExprNode → Bool
-holds env nodes = is_on (eval env nodes)
-
 -- ---- variables
-
--- the values that commands change
-pub record Store : Type 0 where
-  pub globals : List Value
-  pub locals : List Value
-
-abbrev pub write : Store → Var → Value → Store
-write s (Const n) v = s
-write s (Global n) v = record s { globals = slice_set s.globals n v }
-write s (Local n) v = record s { locals = slice_set s.locals n v }
-
-abbrev pub write_all : Store → List Var → List Value → Store
-write_all s [] vs = s
-write_all s (x ∷ xs) [] = s
-write_all s (x ∷ xs) (v ∷ vs) = write_all (write s x v) xs vs
 
 abbrev pub store_of : Config → Frame → Store
 store_of c f = record { globals = c.globals; locals = f.locals }
@@ -214,30 +193,6 @@ abbrev pub tick : Program → ℕ → Config → Config
 tick prog bound c = at_frames prog bound c c.frames
 
 -- ---- one choice
-
-abbrev pub same_atom : Atom → Atom → Bool
-same_atom (BoolAtom a) (BoolAtom b) = if a then b else not b
-same_atom (BoolAtom a) (BvAtom b) = false
-same_atom (BvAtom a) (BoolAtom b) = false
-same_atom (BvAtom a) (BvAtom b) = nat_eq a.width b.width && nat_eq a.bits b.bits
-
-abbrev pub same_pairs : List (Atom × Atom) → List (Atom × Atom) → Bool
-same_pairs [] [] = true
-same_pairs [] (q ∷ qs) = false
-same_pairs (p ∷ ps) [] = false
-same_pairs (p ∷ ps) (q ∷ qs) = same_atom p.0 q.0 && (same_atom p.1 q.1 && same_pairs ps qs)
-
--- equal values, which have one sort
-abbrev pub same_value : Value → Value → Bool
-same_value (AtomValue a) (AtomValue b) = same_atom a b
-same_value (AtomValue a) (MapValue n) = false
-same_value (MapValue m) (AtomValue b) = false
-same_value (MapValue m) (MapValue n) = same_scalar m.index n.index && (same_scalar m.elem n.elem && same_pairs m.pairs n.pairs)
-
--- the constants of these numbers differ from one another
-abbrev pub all_differ : List Value → List ℕ → Bool
-all_differ consts [] = true
-all_differ consts (n ∷ ns) = list_all (λ m. not (same_value (at consts n) (at consts m))) ns && all_differ consts ns
 
 -- unique constants differ, and the axioms are true
 abbrev pub are_allowed : Program → List Value → Bool

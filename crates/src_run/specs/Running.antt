@@ -13,7 +13,8 @@ use Rattle.hy_val.specs.declared.sort.SortKind.TheVariants.{Scalar as ScalarSort
 use Rattle.hy_val.specs.declared.value.Value.{Value}
 use Rattle.hy_val.specs.declared.value.Value.TheVariants.{Atom as AtomValue}
 use Rattle.src_prog.specs.Program.{Program}
-use Rattle.src_prog.specs.Scope.{Scope, cmd_fits}
+use Rattle.hy_val.specs.Scope.{Scope}
+use Rattle.src_prog.specs.Scope.{cmd_fits}
 use Rattle.src_prog.specs.declared.block.Cmd.{Cmd}
 use Rattle.src_prog.specs.declared.block.Cmd.TheVariants.{Assign, Havoc, Assume, Assert, Call}
 use Rattle.src_prog.specs.declared.block.SrcBlock.{SrcBlock}
@@ -23,7 +24,8 @@ use Rattle.src_run.specs.declared.machine.Status.{Status}
 use Rattle.src_run.specs.declared.machine.Status.TheVariants.{Going, Ended, Failed, Blocked, BadChoice}
 use Rattle.src_run.specs.declared.running.Stepped.{Stepped}
 use Rattle.src_run.specs.declared.running.Stepped.TheVariants.{On, Over}
-use Rattle.src_run.specs.Machine.{Config, Want, AConst, AGlobal, ALocal, AVariable, ATarget, Comes, begin, holds, write}
+use Rattle.src_run.specs.Machine.{Config, Want, AConst, AGlobal, ALocal, AVariable, ATarget, Comes, begin}
+use Rattle.hy_val.specs.Stores.{holds, write}
 use Rattle.src_run.specs.Plain.{is_without_call}
 use Rattle.src_run.specs.Search.{bool_choices}
 

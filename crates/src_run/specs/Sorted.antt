@@ -7,7 +7,8 @@ use Rattle.hy_val.specs.declared.expr.Var.{Var}
 use Rattle.hy_val.specs.declared.sort.Sort.{Sort}
 use Rattle.hy_val.specs.declared.value.Value.{Value}
 use Rattle.src_prog.specs.Program.{Program}
-use Rattle.src_prog.specs.Scope.{Scope, sorts_of, locals_of, sort_of_target, targets_fit}
+use Rattle.hy_val.specs.Scope.{Scope, sort_of_target}
+use Rattle.src_prog.specs.Scope.{sorts_of, locals_of, targets_fit}
 use Rattle.src_prog.specs.Shape.{scope_of}
 use Rattle.src_prog.specs.declared.proc.SrcProc.{SrcProc}
 use Rattle.src_run.specs.Machine.{Config, Frame, Want, AConst, AGlobal, ALocal, AVariable, ATarget}

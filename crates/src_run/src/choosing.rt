@@ -5,6 +5,7 @@ ghost use Rattle.hy_val.specs.Exprs.{reads};
 ghost use Rattle.hy_val.specs.Values.{at as value_at};
 ghost use Rattle.src_run.specs.Choosing as spec;
 ghost use Rattle.hy_val.specs.declared.atom.AtomKind.{AtomKind};
+ghost use Rattle.hy_val.specs.Stores as stores;
 ghost use Rattle.src_run.specs.Machine as machine;
 ghost use Rattle.src_run.specs.Machine.{Want};
 ghost use Rattle.src_run.specs.State.{StepsTo, config_of, want_of};
@@ -82,7 +83,7 @@ fn value_at<'a>(values: &'a [Value], place: u32, otherwise: &'a Value) -> &'a Va
 
 // Whether two constants are equal.
 fn are_same(consts: &[Value], one: u32, other: u32) -> bool
-    ensures { result ≡ machine.same_value (value_at consts.now one) (value_at consts.now other) }
+    ensures { result ≡ stores.same_value (value_at consts.now one) (value_at consts.now other) }
 {
     let otherwise = Value::Atom(Atom::bool(false));
     value_at(consts, one, &otherwise).same(value_at(consts, other, &otherwise))
@@ -90,7 +91,7 @@ fn are_same(consts: &[Value], one: u32, other: u32) -> bool
 
 // Whether a constant differs from all others of these numbers.
 fn differs_from(consts: &[Value], number: u32, others: &[u32]) -> bool
-    ensures { result ≡ list_all (λ m. not (machine.same_value (value_at consts.now number) (value_at consts.now m))) others.now }
+    ensures { result ≡ list_all (λ m. not (stores.same_value (value_at consts.now number) (value_at consts.now m))) others.now }
 {
     for other in others {
         if are_same(consts, number, *other) {
@@ -102,7 +103,7 @@ fn differs_from(consts: &[Value], number: u32, others: &[u32]) -> bool
 
 // Whether the constants of these numbers differ from one another.
 fn all_differ(consts: &[Value], numbers: &[u32]) -> bool
-    ensures { result ≡ machine.all_differ consts.now numbers.now }
+    ensures { result ≡ stores.all_differ consts.now numbers.now }
 {
     for (index, number) in numbers.iter().enumerate() {
         if !differs_from(consts, *number, &numbers[index + 1..]) {
@@ -115,7 +116,7 @@ fn all_differ(consts: &[Value], numbers: &[u32]) -> bool
 // Whether all conditions are true.
 fn all_hold(alloc: Global, conditions: &[Expr], env: &Env) -> Result<bool, AllocError>
     requires { IsTrue (list_all (reads env.now) conditions.now) }
-    ensures { IfOk result (λ b. b ≡ list_all (machine.holds env.now) conditions.now) }
+    ensures { IfOk result (λ b. b ≡ list_all (stores.holds env.now) conditions.now) }
 {
     for condition in conditions {
         if !is_true(alloc, condition, env)? {

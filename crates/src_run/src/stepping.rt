@@ -3,8 +3,10 @@ ghost use Rattle.std.specs.Prelude.{◌≡◌, ◌+◌, ◌<◌, ◌^◌, ◌++�
 ghost use Rattle.std.specs.List.{list_all};
 ghost use Rattle.std.specs.Option.{option_copied};
 ghost use Rattle.hy_val.specs.Exprs.{eval, reads};
-ghost use Rattle.src_prog.specs.Scope.{locals_of, sort_of_target, sorts_of};
+ghost use Rattle.src_prog.specs.Scope.{locals_of, sorts_of};
+ghost use Rattle.hy_val.specs.Scope.{sort_of_target};
 ghost use Rattle.src_prog.specs.Shape.{scope_of};
+ghost use Rattle.hy_val.specs.Stores as stores;
 ghost use Rattle.src_run.specs.Machine as machine;
 ghost use Rattle.src_run.specs.Machine.{AConst, AGlobal, ALocal, AVariable};
 ghost use Rattle.src_run.specs.Running.{all_written};
@@ -193,7 +195,7 @@ fn tested(
 ) -> Result<Step, AllocError>
     requires reads { IsTrue (reads state.old.env condition.now) }
     requires room { state.old.place.at + 1 < 2 ^ 64 }
-    ensures { IfOk result (λ step. spec.TestedTo step (machine.holds state.old.env condition.now) otherwise (config_of state.old) (config_of state.new) (top_of state.old) (callers_of state.old)) }
+    ensures { IfOk result (λ step. spec.TestedTo step (stores.holds state.old.env condition.now) otherwise (config_of state.old) (config_of state.new) (top_of state.old) (callers_of state.old)) }
 {
     if !is_true(alloc, condition, &state.env)? {
         return Ok(Step::Over(otherwise));

@@ -1,5 +1,5 @@
 use Rattle.std.proofs.Common.{◌≡◌, drop}
-use Rattle.src_run.specs.Machine.{all_differ}
+use Rattle.hy_val.specs.Stores.{all_differ}
 use Rattle.src_run.proofs.choosing.all_differ.Given as goal
 
 abbrev pub invariant-loop-index : goal.invariant-loop-index

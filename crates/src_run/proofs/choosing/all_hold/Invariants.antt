@@ -1,7 +1,7 @@
 use Rattle.std.proofs.Common.{◌≡◌, drop, IsTrue}
 use Rattle.std.specs.List.{list_all}
 use Rattle.hy_val.specs.Exprs.{reads}
-use Rattle.src_run.specs.Machine.{holds}
+use Rattle.hy_val.specs.Stores.{holds}
 use Rattle.src_run.proofs.choosing.all_hold.Given as goal
 
 abbrev pub invariant-loop-condition : goal.invariant-loop-condition

@@ -1,7 +1,7 @@
 use Rattle.std.proofs.Common.{◌≡◌, not, drop}
 use Rattle.std.specs.List.{list_all}
 use Rattle.hy_val.specs.Values.{at}
-use Rattle.src_run.specs.Machine.{same_value}
+use Rattle.hy_val.specs.Stores.{same_value}
 use Rattle.src_run.proofs.choosing.differs_from.Given as goal
 
 abbrev pub invariant-loop-other : goal.invariant-loop-other

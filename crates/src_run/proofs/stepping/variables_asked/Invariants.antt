@@ -1,5 +1,5 @@
 use Rattle.std.proofs.Common.{◌≡◌, map, take}
-use Rattle.src_prog.specs.Scope.{sort_of_target}
+use Rattle.hy_val.specs.Scope.{sort_of_target}
 use Rattle.src_prog.specs.Shape.{scope_of}
 use Rattle.src_run.specs.Machine.{AVariable}
 use Rattle.src_run.specs.State.{want_of}
