@@ -15,10 +15,6 @@ mod places;
 mod reading;
 mod shift;
 mod signed;
-#[cfg(test)]
-mod term_tests;
-#[cfg(test)]
-mod tests;
 mod word;
 
 pub use adder::{BitSum, WordSum, add_with_carry, bvadd, bvneg, bvsub, full_adder, subtract};

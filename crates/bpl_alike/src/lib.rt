@@ -11,6 +11,3 @@ mod stmts;
 mod tree;
 
 pub use tree::alike;
-
-#[cfg(test)]
-mod tests;

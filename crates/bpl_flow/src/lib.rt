@@ -19,6 +19,3 @@ mod walker;
 
 pub use fault::{FlowFault, FlowKind};
 pub use lowering::lower;
-
-#[cfg(test)]
-mod tests;

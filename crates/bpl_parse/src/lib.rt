@@ -23,6 +23,3 @@ pub use parts::{CalledRest, IfRest, ImplicationTail, Level, LogicTail, NamedRest
 pub use place::{Place, StopKind};
 pub use reading::{MAX_NESTING, grammar_is_exact};
 pub use told::tell;
-
-#[cfg(test)]
-mod tests;

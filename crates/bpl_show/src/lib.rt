@@ -16,6 +16,3 @@ mod tokens;
 pub use laws::shown_in_lines;
 pub use phrase::Phrase;
 pub use program::show;
-
-#[cfg(test)]
-mod tests;

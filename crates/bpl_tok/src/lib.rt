@@ -9,6 +9,3 @@ mod token;
 pub use laws::{reading_cuts, tokens_lie_in_source};
 pub use lexing::tokens;
 pub use token::{LexFault, LexKind, Terminal, TokKind, Token};
-
-#[cfg(test)]
-mod tests;

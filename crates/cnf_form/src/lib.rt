@@ -23,6 +23,3 @@ pub use look::{FalseLiterals, Look, look_at};
 pub use refuted::Refuted;
 pub use store::{ClauseStore, Seen};
 pub use trail::Trail;
-
-#[cfg(test)]
-mod tests;

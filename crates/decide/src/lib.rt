@@ -4,8 +4,6 @@
 
 mod decision;
 mod solving;
-#[cfg(test)]
-mod tests;
 
 pub use decision::Decision;
 pub use solving::decide;

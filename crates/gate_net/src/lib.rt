@@ -9,8 +9,6 @@
 mod encoding;
 mod folding;
 mod net;
-#[cfg(test)]
-mod tests;
 
 pub use encoding::clauses;
 pub use net::{MOST_WIRES, Net, NetGate};

@@ -82,6 +82,3 @@ pub trait Sink {
         ensures held { WriteAppends (held self.old) (held self.new) result piece.now }
         ensures cause { HasCause (faults self.old) (faults self.new) result };
 }
-
-#[cfg(test)]
-mod tests;

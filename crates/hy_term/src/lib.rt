@@ -9,8 +9,6 @@ mod node;
 mod reduced;
 mod sorts;
 mod terms;
-#[cfg(test)]
-mod tests;
 mod variables;
 
 pub use builder::TermBuilder;

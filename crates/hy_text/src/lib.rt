@@ -10,6 +10,3 @@ pub use bytes::Bytes;
 pub use number::{NumFault, put_u64, read_u64};
 pub use refusal::Or;
 pub use text::Text;
-
-#[cfg(test)]
-mod tests;

@@ -16,8 +16,6 @@ mod operator;
 mod plain;
 mod result;
 mod sort;
-#[cfg(test)]
-mod tests;
 mod value;
 mod whole;
 

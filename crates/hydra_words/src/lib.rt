@@ -10,6 +10,3 @@ mod reading;
 pub use command::{Command, WordFault, WordKind};
 pub use laws::{commands_are_read_exactly, faults_are_first, options_stand_in_either_order};
 pub use reading::read_words;
-
-#[cfg(test)]
-mod tests;

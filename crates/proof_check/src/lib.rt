@@ -6,6 +6,3 @@ pub mod trimmer;
 
 pub use checker::{Verdict, certify, check, refutation_is_sound};
 pub use trimmer::trim;
-
-#[cfg(test)]
-mod tests;

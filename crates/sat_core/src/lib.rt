@@ -9,9 +9,7 @@ mod search;
 pub mod solver;
 
 pub use learn::analyze;
+pub use order::Order;
 pub use outcome::Answer;
 pub use scan::ScanStore;
 pub use solver::solve;
-
-#[cfg(test)]
-mod tests;

@@ -11,6 +11,3 @@ mod watch;
 mod watcher;
 
 pub use store::{WatchStore, nothing_is_said_twice};
-
-#[cfg(test)]
-mod tests;

@@ -8,6 +8,3 @@ mod prog;
 pub use block::{Cmd, Next, SrcBlock};
 pub use proc::{Named, SrcLoop, SrcProc};
 pub use prog::Prog;
-
-#[cfg(test)]
-mod tests;

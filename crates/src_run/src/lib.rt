@@ -12,8 +12,6 @@ mod running;
 mod searching;
 mod state;
 mod stepping;
-#[cfg(test)]
-mod tests;
 
 pub use asking::asked;
 pub use machine::{Choice, Status};

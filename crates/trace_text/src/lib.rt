@@ -10,6 +10,3 @@ pub use reading::read;
 pub use trace::{Trace, TraceFault, TraceItem, TraceKind};
 pub use values::put_value;
 pub use writing::write;
-
-#[cfg(test)]
-mod tests;

@@ -1,4 +1,0 @@
-mod building;
-mod evaluation;
-mod maps;
-mod operators;

@@ -1,5 +1,0 @@
-use Rattle.std.proofs.Common.{◌≤◌}
-use Rattle.sat_watch.proofs.tests.propagate.Given as goal
-
-abbrev pub invariant-loop : goal.invariant-loop
-invariant-loop l = l.count ≤ l.counter
