@@ -25,7 +25,8 @@ pub use evaluation::eval;
 pub use expr::{Env, Expr, ExprNode, Var};
 pub use laws::{
     children_are_lower, each_node_has_its_sort, each_node_is_by_cases,
-    fitting_expressions_have_their_sorts, maps_that_agree_are_equal, only_variables_matter, renaming_keeps, stores_write_at_one, values_keep_sorts,
+    fitting_expressions_have_their_sorts, maps_that_agree_are_equal, only_variables_matter,
+    renaming_keeps, stores_write_at_one, values_keep_sorts,
 };
 pub use map::{MapValue, select, store};
 pub use operation::{apply, apply1};
