@@ -1,0 +1,11 @@
+pub mod Program
+pub mod Shape
+pub mod Ordering
+pub mod Local
+pub mod Trees
+pub mod Nodes
+pub mod Sites
+pub mod Caps
+pub mod Changes
+pub mod Limits
+pub mod Runs
