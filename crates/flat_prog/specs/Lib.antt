@@ -1,6 +1,7 @@
 pub mod Program
 pub mod Shape
 pub mod Ordering
+pub mod Searching
 pub mod Local
 pub mod Trees
 pub mod Nodes
@@ -9,3 +10,4 @@ pub mod Caps
 pub mod Changes
 pub mod Limits
 pub mod Runs
+pub mod Laws

@@ -1,7 +1,8 @@
 //! Whole flat programs: constants, axioms, globals and procedures, with the facts that they keep.
-ghost use Rattle.std.specs.Prelude.{◌≡◌, IsTrue};
+ghost use Rattle.std.specs.Prelude.{◌≡◌, ◌↔◌, IsTrue};
 ghost use Rattle.flat_prog.specs.Shape.{IsFlat};
 
+use crate::alike::same_flat;
 use crate::proc::FlatProc;
 use hy_val::{Expr, Sort};
 use sqlite_items::Items;
@@ -90,5 +91,13 @@ impl Flat {
         ensures { result.now ≡ self.now.procs }
     {
         self.procs.as_slice()
+    }
+
+    /// Whether two flat programs are equal: the same constants, uniques, axioms, globals and procedures, in
+    /// the same order. It takes no memory, and time linear in the smaller one.
+    pub fn same(&self, other: &Flat) -> bool
+        ensures { IsTrue result ↔ (self.now ≡ other.now) }
+    {
+        same_flat(self, other)
     }
 }
