@@ -12,6 +12,7 @@ use Rattle.hy_val.specs.Scope.{Scope, sort_of_target}
 use Rattle.hy_val.proofs.Booleans.{and-first, and-second, and-both}
 use Rattle.hy_val.specs.Stores.{write, write_all, holds, env_with, is_value_of}
 use Rattle.flat_prog.specs.Caps.{kind_of, may_follow, are_within, chain_within, within, Capped, CappedBelow}
+use Rattle.flat_prog.specs.Laws.{CapsOfPathsAreOfTrees}
 use Rattle.flat_prog.specs.Local.{Result, Ended, Broken, Request, State, request, havoc, havoc_one, can_come_back, come_back, pass, pass_all, assert_fails, call_fails, fail, Track, Tail, LocalRun}
 use Rattle.flat_prog.specs.Program.{FlatProgram, scope_of, blocks_of}
 use Rattle.flat_prog.specs.Runs.{RunMeans, IsFull}
@@ -407,3 +408,13 @@ full_capped flat entry bound run f =
     subst (λ n. Capped run flat bound (n ∷ [])) e
     (run_capped run flat entry bound m.consts m.proc m.begin f.result [] [] (ap (slice_get flat.procs) e ∙ m.proc_is) m.means
     (subst (λ n. Along flat entry [] (n ∷ [])) (sym e) (record { procs = entry ∷ []; are = refl; back = refl })) f.within_caps)
+
+-- both ways
+pub caps_are : CapsOfPathsAreOfTrees
+caps_are flat entry bound run result m = (to, from)
+  where
+    to : list_all (within flat entry bound) (paths_of run flat []) ≡ true → (may_follow bound (kind_of (slice_get flat.procs entry)) entry [] ≡ true) × Capped run flat bound (entry ∷ [])
+    to h = (and-first (may_follow bound (kind_of (slice_get flat.procs entry)) entry []) true (own_path (within flat entry bound) run flat [] h), full_capped flat entry bound run (record { result = result; means = m; within_caps = h }))
+
+    from : (may_follow bound (kind_of (slice_get flat.procs entry)) entry [] ≡ true) × Capped run flat bound (entry ∷ []) → list_all (within flat entry bound) (paths_of run flat []) ≡ true
+    from (may, capped) = (capped_full flat entry bound run result m may capped).within_caps

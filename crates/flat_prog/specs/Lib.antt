@@ -10,4 +10,6 @@ pub mod Caps
 pub mod Changes
 pub mod Limits
 pub mod Runs
+pub mod Once
+pub mod Passing
 pub mod Laws

@@ -12,7 +12,10 @@ mod run;
 
 pub use block::{FlatBlock, FlatCmd, FlatNext};
 pub use flat::Flat;
-pub use laws::{flat_procedures_are_acyclic, nodes_are_runs};
+pub use laws::{
+    calls_go_to_the_sites_passed, caps_of_paths_are_of_trees, commands_take_a_front, flat_procedures_are_acyclic,
+    nodes_are_runs, runs_add_their_calls, runs_keep, sites_are_passed_once, within_is_exact,
+};
 pub use ordering::order;
 pub use proc::{FlatKind, FlatProc};
 pub use run::{Child, PartRun, RunNode, RunTree};
