@@ -12,4 +12,5 @@ pub mod Limits
 pub mod Runs
 pub mod Once
 pub mod Passing
+pub mod Sorted
 pub mod Laws

@@ -5,7 +5,6 @@ use Rattle.std.specs.Option.{option_and_then}
 use Rattle.hy_val.specs.Exprs.{eval}
 use Rattle.hy_val.specs.Values.{has_sort, zero_of}
 use Rattle.hy_val.specs.declared.atom.AtomKind.TheVariants.{Bv as BvAtom}
-use Rattle.hy_val.specs.declared.expr.Env.{Env}
 use Rattle.hy_val.specs.declared.expr.ExprNode.{ExprNode}
 use Rattle.hy_val.specs.declared.expr.Var.{Var}
 use Rattle.hy_val.specs.declared.sort.Sort.{Sort}
@@ -13,6 +12,7 @@ use Rattle.hy_val.specs.declared.value.Value.{Value}
 use Rattle.hy_val.specs.declared.value.Value.TheVariants.{Atom as AtomValue}
 use Rattle.hy_val.specs.Scope.{Scope, sort_of_target}
 use Rattle.hy_val.specs.Stores.{Store, write, write_all, holds}
+pub use Rattle.hy_val.specs.Stores.{env_with, have_sorts, is_value_of}
 use Rattle.flat_prog.specs.Program.{FlatProgram, scope_of, outs_at}
 use Rattle.flat_prog.specs.Shape.{place_of}
 use Rattle.flat_prog.specs.declared.block.FlatBlock.{FlatBlock}
@@ -43,22 +43,7 @@ pub record State : Type 0 where
   pub results : List Result
   pub calls : List Request
 
-abbrev pub env_with : List Value → Store → Env
-env_with consts s = record { consts = consts; globals = s.globals; locals = s.locals }
-
--- one value of each sort, in order
-abbrev pub have_sorts : List Value → List Sort → Bool
-have_sorts [] [] = true
-have_sorts [] (s ∷ ss) = false
-have_sorts (v ∷ vs) [] = false
-have_sorts (v ∷ vs) (s ∷ ss) = has_sort v s && have_sorts vs ss
-
 -- ---- commands
-
--- a value of the sort, where there is one
-abbrev pub is_value_of : Option Sort → Value → Bool
-is_value_of None v = false
-is_value_of (Some s) v = has_sort v s
 
 -- one variable takes the next value, which has its sort
 abbrev pub havoc_one : Scope → Var → State → List Value → Option State

@@ -1,6 +1,9 @@
 //! Laws of flat programs and their runs, each the contract of a function that does nothing.
 ghost use Rattle.flat_prog.specs.Laws.{FlatProcsAreAcyclic, NodesAreRuns, RunsAddTheirCalls, CallsOfRuns, OnceLaw, AllRunsKeep, CapsOfPathsAreOfTrees, WithinIsExact};
 ghost use Rattle.flat_prog.specs.Passing.{CommandsTakeAFront};
+ghost use Rattle.flat_prog.specs.Sorted.{RunsKeepSorts};
+
+use hy_val::{fitting_expressions_have_their_sorts, values_keep_sorts};
 
 /// The blocks of a procedure of a flat program have an order in which each edge leads on.
 pub fn flat_procedures_are_acyclic()
@@ -51,3 +54,12 @@ pub fn caps_of_paths_are_of_trees()
 pub fn within_is_exact()
     ensures { WithinIsExact }
 {}
+
+/// Values have their sorts along a run: those of its variables from its begin on, those that its calls ask
+/// with, and those that it hands back.
+pub fn runs_keep_sorts()
+    ensures { RunsKeepSorts }
+{
+    fitting_expressions_have_their_sorts();
+    values_keep_sorts();
+}
