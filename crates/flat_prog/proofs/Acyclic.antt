@@ -1,14 +1,13 @@
 -- A procedure whose blocks are acyclic has an order: that of its facts, without the numbers that name no block.
-use Rattle.std.proofs.Common.{◌≡◌, ℕ, zero, suc, ◌<◌, nat_eq, nat_lt, Bool, true, false, ◌&&◌, ◌||◌, cond, List, [], ◌∷◌, length, slice_get, Option, None, Some, Contains, refl, sym, ◌∙◌, subst, inl, inr, ◌⊎◌, ⊎_elim, true≢false, arith}
+use Rattle.std.proofs.Common.{◌≡◌, ℕ, ◌<◌, nat_eq, nat_lt, Bool, true, false, cond, List, [], ◌∷◌, length, slice_get, Option, None, Some, Contains, refl, sym, ◌∙◌, subst, inl, inr, ◌⊎◌, ⊎_elim, true≢false}
 use Rattle.std.proofs.lemmas.Bool.{and_parts, or_cases, or_left, or_right, eq-eqb, eqb-true, ltb-true, lt-ltb}
-use Rattle.std.proofs.lemmas.Option.{slice_get_within}
 use Rattle.std.specs.List.{list_all}
 use Rattle.flat_prog.specs.declared.block.FlatBlock.{FlatBlock}
 use Rattle.flat_prog.specs.declared.block.FlatNext.{FlatNext}
 use Rattle.flat_prog.specs.declared.block.FlatNext.TheVariants.{Goto, Return}
 use Rattle.flat_prog.specs.declared.proc.FlatProc.{FlatProc}
 use Rattle.flat_prog.specs.Laws.{FlatProcsAreAcyclic}
-use Rattle.flat_prog.specs.Ordering.{is_in, Onward, IsOrderOf, IsAcyclic}
+use Rattle.flat_prog.specs.Ordering.{is_in, Onward, IsAcyclic}
 use Rattle.flat_prog.specs.Program.{FlatProgram, scope_of}
 use Rattle.flat_prog.specs.Shape.{place_of, place_at, block_fits, cmd_fits, next_fits, IsFlatProc, AreAcyclic}
 use Rattle.flat_prog.specs.Shape as shape

@@ -1,5 +1,5 @@
 -- Elements of lists: some, all, and those at places.
-use Rattle.std.proofs.Common.{◌≡◌, ℕ, zero, suc, Bool, true, false, ◌&&◌, List, [], ◌∷◌, slice_get, Some, All, Any, Contains, refl, sym, ap, ◌∙◌, subst, arith, not-suc-le-zero, inl, inr, ◌⊎◌}
+use Rattle.std.proofs.Common.{◌≡◌, ℕ, zero, suc, Bool, true, List, [], ◌∷◌, slice_get, Some, All, Any, Contains, refl, sym, ap, ◌∙◌, subst, arith, not-suc-le-zero, inl, inr, ◌⊎◌}
 use Rattle.std.proofs.lemmas.Bool.{and_parts}
 use Rattle.std.specs.List.{list_all}
 

@@ -524,7 +524,7 @@ entries_snoc : (ns : List ℕ) (n : ℕ) → entries (ns ++ n ∷ []) ≡ entrie
 entries_snoc [] n = refl
 entries_snoc (m ∷ ns) n = ap (λ (vs : List Visit). Enter m ∷ vs) (entries_snoc ns n)
 
-numbers_on : (i : ℕ) → numbers_from 0 (i + 1) ≡ numbers_from 0 i ++ i ∷ []
+pub numbers_on : (i : ℕ) → numbers_from 0 (i + 1) ≡ numbers_from 0 i ++ i ∷ []
 numbers_on i =
     let e : i + 1 ≡ suc i = omega arith in
     let z : 0 + i ≡ i = omega arith in

@@ -1,12 +1,12 @@
 -- Values keep their sorts along a run of a procedure.
-use Rattle.std.proofs.Common.{◌≡◌, ℕ, zero, suc, Bool, true, false, ◌&&◌, if◌then◌else◌, List, [], ◌∷◌, ◌++◌, map, length, take, drop, slice_get, slice_set, Option, None, Some, refl, sym, ap, ◌∙◌, subst, append_assoc, true≢false}
+use Rattle.std.proofs.Common.{◌≡◌, ℕ, zero, suc, Bool, true, false, if◌then◌else◌, List, [], ◌∷◌, ◌++◌, map, length, take, drop, slice_get, slice_set, Option, None, Some, refl, sym, ap, ◌∙◌, subst, append_assoc, true≢false}
 use Rattle.std.proofs.lemmas.Bool.{and_parts, and_from}
 use Rattle.std.specs.List.{list_all}
 use Rattle.hy_val.proofs.Scopes.{is_sort_of_is}
 use Rattle.hy_val.specs.Exprs.{eval}
 use Rattle.hy_val.specs.Laws.{FittingExpressionsHaveTheirSorts, ValuesKeepSorts}
 use Rattle.hy_val.specs.NodeSorts.{is_sort}
-use Rattle.hy_val.specs.Scope.{Scope, sort_of_target, is_sort_of, are_same, node_fits, sort_of_expr, expr_fits, pair_fits, is_target, are_numbered}
+use Rattle.hy_val.specs.Scope.{Scope, sort_of_target, is_sort_of, are_same, node_fits, sort_of_expr, expr_fits, pair_fits, are_numbered}
 use Rattle.hy_val.specs.Stores.{Store, write, write_all, holds, env_with, is_value_of, have_sorts}
 use Rattle.hy_val.specs.Values.{has_sort, zero_of}
 use Rattle.hy_val.specs.declared.expr.ExprNode.{ExprNode}
@@ -14,7 +14,7 @@ use Rattle.hy_val.specs.declared.expr.Var.{Var}
 use Rattle.hy_val.specs.declared.expr.Var.TheVariants.{Const, Global, Local}
 use Rattle.hy_val.specs.declared.sort.Sort.{Sort}
 use Rattle.hy_val.specs.declared.value.Value.{Value}
-use Rattle.flat_prog.specs.Local.{Request, Result, Ended, Broken, State, Track, Tail, Stop, LocalRun, request, havoc_one, havoc, can_come_back, come_back, pass, pass_all, assert_fails, call_fails, fail, outs_of, fill_one, fill, exit_value, begin_of}
+use Rattle.flat_prog.specs.Local.{Request, Result, Ended, Broken, State, Track, Tail, Stop, LocalRun, request, havoc_one, havoc, can_come_back, come_back, pass, pass_all, assert_fails, call_fails, fail, fill_one, fill, exit_value, begin_of}
 use Rattle.flat_prog.specs.Program.{FlatProgram, scope_of, variables_of, outs_at}
 use Rattle.flat_prog.specs.Shape.{IsFlatProc, HaveLoopOuts, exit_sort, sorts_fit, args_fit, targets_fit, call_fits, cmd_fits, next_fits, block_fits}
 use Rattle.flat_prog.specs.Sorted.{IsStoreOf, IsAsked, AllAsked, Gives, RunsKeepSorts}
@@ -253,10 +253,13 @@ fail_asked law flat q consts (Call p args outs) s proc number total cs fit h e =
 stop_sorted : FittingExpressionsHaveTheirSorts → (flat : FlatProgram) (q : FlatProc) (consts : List Value) (cmds : List FlatCmd) (next : FlatNext) (s : State) (calls : List Request) (result : Result) → have_sorts consts flat.consts ≡ true →
     list_all (cmd_fits flat.procs (scope_of flat q)) cmds ≡ true → Fine flat q s → Stop flat q consts cmds next s calls result → AllAsked flat calls × Gives flat q result
 stop_sorted law flat q consts cmds next s calls (Ended outs globals) cs fit h k =
-    let f = pass_all_fine law flat q consts cmds s k.over cs fit h k.passes in
-    (subst (AllAsked flat) (sym k.calls_are) f.1,
-     (ap (λ vs. have_sorts vs q.outs) k.outs_are ∙ have_front (drop (length q.ins) k.over.store.locals) q.outs q.locals (have_back k.over.store.locals q.ins (q.outs ++ q.locals) f.0.locals),
-      ap (λ vs. have_sorts vs flat.globals) k.globals_are ∙ f.0.globals))
+    let f = pass_all_fine law flat q consts cmds s k.over cs fit h k.passes in (
+      subst (AllAsked flat) (sym k.calls_are) f.1,
+      (
+        ap (λ vs. have_sorts vs q.outs) k.outs_are ∙ have_front (drop (length q.ins) k.over.store.locals) q.outs q.locals (have_back k.over.store.locals q.ins (q.outs ++ q.locals) f.0.locals),
+        ap (λ vs. have_sorts vs flat.globals) k.globals_are ∙ f.0.globals,
+      ),
+    )
 stop_sorted law flat q consts cmds next s calls (Broken proc number) cs fit h k =
     let parts = all_front (cmd_fits flat.procs (scope_of flat q)) k.before (k.at ∷ k.behind) (subst (λ (xs : List FlatCmd). list_all (cmd_fits flat.procs (scope_of flat q)) xs ≡ true) k.splits fit) in
     let f = pass_all_fine law flat q consts k.before s k.over cs parts.0 h k.passes in
@@ -298,9 +301,11 @@ fill_sorted (sort ∷ sorts) done s t e h =
     one : (values : List Value) (m : State) → fill_one sort s values ≡ Some m → (have_sorts m.store.locals (done ++ sort ∷ []) ≡ true) × (m.store.globals ≡ s.store.globals)
     one [] m e = cc
     one (v ∷ rest) m e =
-        let c = if_some (has_sort v sort) (record s { store = record { globals = s.store.globals; locals = s.store.locals ++ v ∷ [] }; values = rest }) m e in
-        (subst (λ (u : State). have_sorts u.store.locals (done ++ sort ∷ []) ≡ true) c.1
-         (have_both s.store.locals (v ∷ []) done (sort ∷ []) h (and_from (has_sort v sort) true c.0 refl)), ap (λ (u : State). u.store.globals) (sym c.1))
+        let c = if_some (has_sort v sort) (record s { store = record { globals = s.store.globals; locals = s.store.locals ++ v ∷ [] }; values = rest }) m e in (
+          subst (λ (u : State). have_sorts u.store.locals (done ++ sort ∷ []) ≡ true) c.1
+              (have_both s.store.locals (v ∷ []) done (sort ∷ []) h (and_from (has_sort v sort) true c.0 refl)),
+          ap (λ (u : State). u.store.globals) (sym c.1),
+        )
 
 sorts_back : (ss ts : List Sort) → list_all is_sort (ss ++ ts) ≡ true → list_all is_sort ts ≡ true
 sorts_back [] ts h = h

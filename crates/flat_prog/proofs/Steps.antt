@@ -19,7 +19,7 @@ use Rattle.flat_prog.specs.Local.{Result, Ended, Broken, Request, State, havoc_o
 use Rattle.flat_prog.specs.Sites.{calls_of, sites_of, calls_at, sites_passed}
 use Rattle.flat_prog.specs.Changes.{Writes, MayChange, own, through, Unchanged, Keeps, AllKeep}
 use Rattle.flat_prog.specs.Laws.{CallsOfRuns}
-use Rattle.flat_prog.specs.Passing.{Sited, KeptBy, Fits, AllFit, CallsOfRun}
+use Rattle.flat_prog.specs.Passing.{Sited, KeptBy, Fits, AllFit}
 use Rattle.flat_prog.proofs.Lists.{any_here, any_there, any_at, has_here, has_there}
 use Rattle.flat_prog.proofs.Sited.{called_on, calls_sited}
 

@@ -1,5 +1,5 @@
 -- Commands take values and results from the front, leave the others, and do the same with what they take alone.
-use Rattle.std.proofs.Common.{◌≡◌, ℕ, Bool, true, false, if◌then◌else◌, List, [], ◌∷◌, ◌++◌, map, slice_get, Option, None, Some, refl, sym, ap, ◌∙◌, subst, append_assoc, append-nil, option_and_then}
+use Rattle.std.proofs.Common.{◌≡◌, ℕ, Bool, true, false, if◌then◌else◌, List, [], ◌∷◌, ◌++◌, map, Option, None, Some, refl, sym, ap, ◌∙◌, subst, append_assoc, append-nil, option_and_then}
 use Rattle.hy_val.specs.Exprs.{eval}
 use Rattle.hy_val.specs.Values.{has_sort}
 use Rattle.hy_val.specs.declared.expr.ExprNode.{ExprNode}
@@ -9,12 +9,11 @@ use Rattle.hy_val.specs.declared.value.Value.{Value}
 use Rattle.hy_val.specs.Scope.{Scope, sort_of_target}
 use Rattle.hy_val.specs.Stores.{Store, write, write_all, holds, env_with, is_value_of}
 use Rattle.flat_prog.specs.Program.{FlatProgram, scope_of}
-use Rattle.flat_prog.specs.declared.block.FlatBlock.{FlatBlock}
 use Rattle.flat_prog.specs.declared.block.FlatCmd.{FlatCmd}
 use Rattle.flat_prog.specs.declared.block.FlatCmd.TheVariants.{Assign, Havoc, Assume, Assert, Call}
 use Rattle.flat_prog.specs.declared.block.FlatNext.{FlatNext}
 use Rattle.flat_prog.specs.declared.proc.FlatProc.{FlatProc}
-use Rattle.flat_prog.specs.Local.{Result, Ended, Broken, Request, State, havoc_one, havoc, request, can_come_back, come_back, pass, pass_all, assert_fails, call_fails, fail, outs_of, Stop, StopEnds, StopFails, Tail, fill_one, fill}
+use Rattle.flat_prog.specs.Local.{Result, Ended, Broken, Request, State, havoc_one, havoc, request, can_come_back, come_back, pass, pass_all, assert_fails, call_fails, fail, Tail, fill_one, fill}
 use Rattle.flat_prog.specs.Passing.{stated, Took, CommandsTakeAFront, Called}
 use Rattle.flat_prog.specs.Laws.{RunsAddTheirCalls}
 use Rattle.flat_prog.proofs.Steps.{and_then_some, if_some}
@@ -233,15 +232,15 @@ tail_called flat q consts [] [] cmds next s calls (Ended outs globals) k =
       made = t.calls;
       calls_are = k.calls_are ∙ t.calls_are;
       again = λ before. record {
-            over = stated k.over.store k.over.values k.over.results (before ++ t.calls);
-            passes = other_calls flat q consts cmds s k.over t before;
-            returns = k.returns;
-            values = k.values;
-            results = k.results;
-            calls_are = refl;
-            outs_are = k.outs_are;
-            globals_are = k.globals_are;
-          };
+        over = stated k.over.store k.over.values k.over.results (before ++ t.calls);
+        passes = other_calls flat q consts cmds s k.over t before;
+        returns = k.returns;
+        values = k.values;
+        results = k.results;
+        calls_are = refl;
+        outs_are = k.outs_are;
+        globals_are = k.globals_are;
+      };
     }
 tail_called flat q consts [] [] cmds next s calls (Broken proc number) k =
     let t = pass_all_took flat q consts k.before s k.over k.passes in
@@ -250,15 +249,15 @@ tail_called flat q consts [] [] cmds next s calls (Broken proc number) k =
       made = t.calls ++ f.made;
       calls_are = f.total_is ∙ ap (λ xs. xs ++ f.made) t.calls_are ∙ append_assoc s.calls t.calls f.made;
       again = λ before. record {
-            before = k.before;
-            at = k.at;
-            behind = k.behind;
-            over = stated k.over.store k.over.values k.over.results (before ++ t.calls);
-            splits = k.splits;
-            passes = other_calls flat q consts k.before s k.over t before;
-            fails = f.again (before ++ t.calls) ∙ ap (λ xs. Some (Broken proc number, xs)) (append_assoc before t.calls f.made);
-            values = k.values;
-          };
+        before = k.before;
+        at = k.at;
+        behind = k.behind;
+        over = stated k.over.store k.over.values k.over.results (before ++ t.calls);
+        splits = k.splits;
+        passes = other_calls flat q consts k.before s k.over t before;
+        fails = f.again (before ++ t.calls) ∙ ap (λ xs. Some (Broken proc number, xs)) (append_assoc before t.calls f.made);
+        values = k.values;
+      };
     }
 tail_called flat q consts [] (place ∷ places) cmds next s calls result k = absurd k
 tail_called flat q consts (b ∷ path) [] cmds next s calls result k = absurd k
@@ -269,13 +268,13 @@ tail_called flat q consts (b ∷ path) (place ∷ places) cmds next s calls resu
       made = u.calls ++ n.made;
       calls_are = n.calls_are ∙ ap (λ xs. xs ++ n.made) u.calls_are ∙ append_assoc s.calls u.calls n.made;
       again = λ before. (
-            block,
-            stated t.store t.values t.results (before ++ u.calls),
-            other_calls flat q consts cmds s t u before,
-            placed,
-            there,
-            subst (λ xs. Tail flat q consts path places block.cmds block.next (stated t.store t.values t.results (before ++ u.calls)) xs result) (append_assoc before u.calls n.made) (n.again (before ++ u.calls)),
-          );
+        block,
+        stated t.store t.values t.results (before ++ u.calls),
+        other_calls flat q consts cmds s t u before,
+        placed,
+        there,
+        subst (λ xs. Tail flat q consts path places block.cmds block.next (stated t.store t.values t.results (before ++ u.calls)) xs result) (append_assoc before u.calls n.made) (n.again (before ++ u.calls)),
+      );
     }
 
 pub runs_add : RunsAddTheirCalls

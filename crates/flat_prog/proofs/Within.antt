@@ -1,5 +1,5 @@
 -- A site path is within the caps exactly where the procedures along it are: sources counted, loops in rows.
-use Rattle.std.proofs.Common.{◌≡◌, ◌↔◌, ℕ, zero, suc, ◌+◌, ◌<◌, ◌≤◌, nat_eq, nat_lt, nat_le, Bool, true, false, ◌&&◌, if◌then◌else◌, List, [], ◌∷◌, ◌++◌, replicate, length, slice_get, Option, None, Some, refl, sym, ap, ◌∙◌, subst, append_assoc, true≢false, arith}
+use Rattle.std.proofs.Common.{◌≡◌, ℕ, zero, suc, ◌+◌, ◌<◌, ◌≤◌, nat_eq, Bool, true, false, if◌then◌else◌, List, [], ◌∷◌, ◌++◌, replicate, slice_get, Option, None, Some, refl, sym, ap, ◌∙◌, subst, append_assoc, true≢false, arith}
 use Rattle.std.proofs.lemmas.Bool.{and_parts, and_from, eq-eqb, eqb-true, ltb-true, lt-ltb, leb-true, le-leb}
 use Rattle.flat_prog.specs.Caps.{times, row_of, kind_of, may_follow, are_within, chain_within, within}
 use Rattle.flat_prog.specs.Laws.{AreCapped, IsWithin, WithinIsExact}
@@ -133,11 +133,11 @@ within_exact flat entry bound path = (to (along flat entry path) refl, from)
       procs = ps;
       exists = is;
       capped = record {
-            sources = λ p source. (let r = sources_capped flat bound p [] ps source h (omega arith) in omega (arith, r));
-            loops = λ p count before behind loop e.
-                let r = behind_within flat bound [] before (replicate count p ++ behind) (subst (λ (qs : List ℕ). are_within flat bound [] qs ≡ true) e h) in
-                row_capped flat bound p count r.0 behind loop r.1;
-          };
+        sources = λ p source. (let r = sources_capped flat bound p [] ps source h (omega arith) in omega (arith, r));
+        loops = λ p count before behind loop e.
+            let r = behind_within flat bound [] before (replicate count p ++ behind) (subst (λ (qs : List ℕ). are_within flat bound [] qs ≡ true) e h) in
+            row_capped flat bound p count r.0 behind loop r.1;
+      };
     }
 
     from : IsWithin flat entry bound path → within flat entry bound path ≡ true

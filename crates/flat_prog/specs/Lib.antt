@@ -9,6 +9,7 @@ pub mod Sites
 pub mod Caps
 pub mod Changes
 pub mod Limits
+pub mod Marking
 pub mod Runs
 pub mod Once
 pub mod Passing

@@ -1,6 +1,6 @@
 -- A run of one flat procedure (This is Boogie 2, commands and their runs), where the results of the calls that it passes
 -- are given: what the callee of each call is asked for, and how the run is over.
-use Rattle.std.specs.Prelude.{◌≡◌, ℕ, Bool, true, false, ◌&&◌, List, [], ◌∷◌, ◌++◌, map, length, take, drop, slice_get, Option, None, Some, if◌then◌else◌}
+use Rattle.std.specs.Prelude.{◌≡◌, ℕ, Bool, true, ◌&&◌, List, [], ◌∷◌, ◌++◌, map, length, take, drop, slice_get, Option, None, Some, if◌then◌else◌}
 use Rattle.std.specs.Option.{option_and_then}
 use Rattle.hy_val.specs.Exprs.{eval}
 use Rattle.hy_val.specs.Values.{has_sort, zero_of}

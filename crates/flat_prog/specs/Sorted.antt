@@ -1,6 +1,5 @@
 -- Values of their sorts along runs: what a run knows, asks for and hands back (This is Boogie 2, typing of commands).
 use Rattle.std.specs.Prelude.{◌≡◌, ℕ, true, List, [], ◌∷◌, slice_get, Some}
-use Rattle.std.specs.List.{list_all}
 use Rattle.hy_val.specs.Stores.{Store, have_sorts}
 use Rattle.hy_val.specs.declared.expr.ExprNode.{ExprNode}
 use Rattle.hy_val.specs.declared.expr.Var.{Var}

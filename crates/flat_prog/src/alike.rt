@@ -148,7 +148,11 @@ fn same_assert(proc: u32, number: u32, expr: &Expr, other: &FlatCmd) -> bool
         FlatCmd::Assign(_) => false,
         FlatCmd::Havoc(_) => false,
         FlatCmd::Assume(_) => false,
-        FlatCmd::Assert { proc: p, number: n, expr: holds } => proc == *p && (number == *n && expr.same(holds)),
+        FlatCmd::Assert {
+            proc: p,
+            number: n,
+            expr: holds,
+        } => proc == *p && (number == *n && expr.same(holds)),
         FlatCmd::Call { .. } => false,
     }
 }
@@ -161,9 +165,11 @@ fn same_call(proc: u32, args: &[Expr], outs: &[Var], other: &FlatCmd) -> bool
         FlatCmd::Havoc(_) => false,
         FlatCmd::Assume(_) => false,
         FlatCmd::Assert { .. } => false,
-        FlatCmd::Call { proc: p, args: a, outs: o } => {
-            proc == *p && (same_exprs(args, a.as_slice()) && same_vars(outs, o.as_slice()))
-        }
+        FlatCmd::Call {
+            proc: p,
+            args: a,
+            outs: o,
+        } => { proc == *p && (same_exprs(args, a.as_slice()) && same_vars(outs, o.as_slice())) }
     }
 }
 
@@ -175,7 +181,12 @@ fn same_cmd(left: &FlatCmd, right: &FlatCmd) -> bool
         FlatCmd::Havoc(vars) => same_havoc(vars.as_slice(), right),
         FlatCmd::Assume(expr) => same_assume(expr, right),
         FlatCmd::Assert { proc, number, expr } => same_assert(*proc, *number, expr, right),
-        FlatCmd::Call { proc, args, outs } => same_call(*proc, args.as_slice(), outs.as_slice(), right),
+        FlatCmd::Call { proc, args, outs } => same_call(
+            *proc,
+            args.as_slice(),
+            outs.as_slice(),
+            right,
+        ),
     }
 }
 
@@ -274,4 +285,3 @@ pub(crate) fn same_flat(left: &Flat, right: &Flat) -> bool
         && (same_numbers(left.uniques(), right.uniques())
             && (same_exprs(left.axioms(), right.axioms()) && same_tail(left, right)))
 }
-

@@ -139,6 +139,7 @@ fn proc_at(flat: &Flat, proc: u32) -> &FlatProc
     ensures is { slice_get flat.now.procs proc ≡ Some result.now }
     ensures acyclic { IsAcyclic result.now }
 {
+    // Reading the constants also gives that the program is one.
     let _consts = flat.consts();
     let procs = flat.procs();
     &procs[proc as usize]

@@ -1,6 +1,5 @@
 use Rattle.std.proofs.Common.{◌≡◌, ◌<◌, arith, length, refl, subst, get_or}
 use Rattle.std.proofs.lemmas.List.{get_or_default}
-use Rattle.hy_val.specs.declared.expr.Var.{Var}
 use Rattle.hy_val.specs.declared.expr.Var.TheVariants.{Const}
 use Rattle.flat_prog.proofs.Matching.{alike_whole, alike_next}
 use Rattle.flat_prog.proofs.alike.same_vars.Goals as goal
