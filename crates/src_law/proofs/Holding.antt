@@ -59,7 +59,7 @@ module _ (prog : Program) where
     frames = frames_whole c.frames h.frames;
   }
 
-  sorted_asks : (c : Config) → AreSorted prog c → (ws : List Want) → c.wants ≡ ws → AsksNext prog c ws
+  pub sorted_asks : (c : Config) → AreSorted prog c → (ws : List Want) → c.wants ≡ ws → AsksNext prog c ws
   sorted_asks c h [] asks = tt
   sorted_asks c h (AConst s ∷ ws) asks = const_next prog c h ws s asks
   sorted_asks c h (AGlobal s ∷ ws) asks = global_next prog c h ws s asks

@@ -13,3 +13,4 @@ pub mod Counting
 pub mod Causing
 pub mod Stacking
 pub mod Holding
+pub mod Named

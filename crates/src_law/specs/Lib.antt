@@ -3,3 +3,4 @@ pub mod OpenLoops
 pub mod Causes
 pub mod OpenFrames
 pub mod HeldValues
+pub mod AskedNames

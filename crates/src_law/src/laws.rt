@@ -1,4 +1,5 @@
 //! The laws, each the contract of a function that does nothing.
+ghost use Rattle.src_law.specs.AskedNames.{NamesAreUnique, NamesAreOfChoices};
 ghost use Rattle.src_law.specs.Causes.{StatusesHaveCauses};
 ghost use Rattle.src_law.specs.HeldValues.{ValuesHaveTheirSorts};
 ghost use Rattle.src_law.specs.OpenFrames.{OpenFramesAreBounded};
@@ -56,4 +57,16 @@ pub fn open_frames_are_bounded()
 /// target, or for a new value of a variable, if the entry is there.
 pub fn values_have_their_sorts()
     ensures { ValuesHaveTheirSorts }
+{}
+
+/// A run on a list of choices has one list of names at most.
+pub fn names_are_unique()
+    ensures { NamesAreUnique }
+{}
+
+/// Where each choice of a run of a program was taken, there are as many names as choices: None exactly
+/// at a target, and at a value the name of a variable that the program declares, whose sort the value
+/// has.
+pub fn names_are_of_choices()
+    ensures { NamesAreOfChoices }
 {}
