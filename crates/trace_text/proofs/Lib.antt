@@ -1,3 +1,6 @@
+pub mod Back
+pub mod BackValues
+pub mod Bytes
 pub mod Ascii
 pub mod Cuts
 pub mod Lines

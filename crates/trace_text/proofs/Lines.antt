@@ -64,7 +64,7 @@ into_if : (t : Bool) (x : List ℕ) (xs ys : List (List ℕ)) → x ∷ (if t th
 into_if true x xs ys = refl
 into_if false x xs ys = refl
 
-end_push : (xs : List (List ℕ)) (last : List ℕ) → without_empty_end (xs ++ last ∷ []) ≡ (if length last == 0 then xs else xs ++ last ∷ [])
+pub end_push : (xs : List (List ℕ)) (last : List ℕ) → without_empty_end (xs ++ last ∷ []) ≡ (if length last == 0 then xs else xs ++ last ∷ [])
 end_push [] last = refl
 end_push (x ∷ []) last = into_if (length last == 0) x [] (last ∷ [])
 end_push (x ∷ y ∷ zs) last = ap (λ ls. x ∷ ls) (end_push (y ∷ zs) last) ∙ into_if (length last == 0) x (y ∷ zs) (y ∷ zs ++ last ∷ [])

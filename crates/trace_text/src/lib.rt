@@ -1,6 +1,7 @@
 //! The text of traces: what a failing run takes, line by line, and the assert that is false then.
 #![tactic(auto)]
 
+pub mod laws;
 pub mod reading;
 pub mod trace;
 pub mod values;
