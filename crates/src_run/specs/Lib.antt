@@ -9,3 +9,4 @@ pub mod Search
 pub mod Sorted
 pub mod State
 pub mod Stepping
+pub mod Whole

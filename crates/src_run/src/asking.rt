@@ -1,15 +1,16 @@
-//! Which variable takes each choice of a run.
+//! A whole run: its status, and which variable takes each of its choices.
 ghost use Rattle.std.specs.Prelude.{◌≡◌, ◌<◌, ◌≤◌, ◌+◌, ◌++◌, ◌∷◌, [], ℕ, drop, length, option_map, slice_get, IfOk, IsTrue, OnOk};
 ghost use Rattle.std.specs.Option.{option_copied};
 ghost use Rattle.src_prog.specs.Shape.{is_program};
 ghost use Rattle.src_run.specs.Machine.{Config};
 ghost use Rattle.src_run.specs.Names as spec;
-ghost use Rattle.src_run.specs.Names.{HasNames, NamesCome};
+ghost use Rattle.src_run.specs.Names.{HasNames};
+ghost use Rattle.src_run.specs.Whole.{IsRun, IsRunFrom};
 ghost use Rattle.src_run.specs.Sorted.{AreSorted};
 ghost use Rattle.src_run.specs.State.{callers_of, config_of, top_of, want_of};
 
-use crate::machine::Choice;
-use crate::replaying::{Begun, Onward, begin, turn};
+use crate::machine::{Choice, Status};
+use crate::replaying::{Begun, Onward, begin, ending, turn};
 use crate::state::{Asked, State};
 use crate::stepping::local_at;
 use hy_val::Var;
@@ -84,16 +85,25 @@ fn name_turn(
     }
 }
 
-// The names from a state until the run stands.
-fn names_on(
+/// A run on a list of choices.
+#[derive(Drop)]
+pub struct Run {
+    /// Where it stands after all choices.
+    pub status: Status,
+    /// Per choice the bytes of the name of the variable that takes it, or None for a target.
+    pub names: Items<Option<Items<u8>>>,
+}
+
+// The run from a state until it stands.
+fn run_on(
     alloc: Global,
     prog: &Prog,
     bound: u32,
     choices: &[Choice],
     mut state: State,
-) -> Result<Items<Option<Items<u8>>>, AllocError>
+) -> Result<Run, AllocError>
     requires { AreSorted prog.now (config_of state) }
-    ensures { IfOk result (λ names. NamesCome prog.now bound 0 (config_of state) choices.now names) }
+    ensures { IfOk result (λ run. IsRunFrom prog.now bound (config_of state) choices.now run) }
 {
     let mut names = Items::new(alloc);
     let mut index = 0;
@@ -101,10 +111,31 @@ fn names_on(
         name_turn(alloc, prog, &state, index, choices, &mut names)?;
         match turn(alloc, prog, bound, index, choices, &mut state)? {
             Onward::On(next) => index = next,
-            Onward::Over(_) => return Ok(names),
+            Onward::Over(status) => return Ok(Run { status, names }),
         }
     }
     Err(AllocError)
+}
+
+/// The entry's run on a list of choices: its status, as `replay` gives it, and the names, as `asked` gives them, in one walk.
+/// `AllocError` comes as in `replay`.
+pub fn whole_run(
+    alloc: Global,
+    prog: &Prog,
+    entry: u32,
+    bound: u32,
+    choices: &[Choice],
+) -> Result<Run, AllocError>
+    requires { entry < length prog.now.procs }
+    ensures { IfOk result (λ run. IsRun prog.now entry bound choices.now run) }
+{
+    match begin(alloc, prog, entry)? {
+        Begun::Going(state) => run_on(alloc, prog, bound, choices, state),
+        Begun::Over(status) => Ok(Run {
+            status: ending(status, 0, choices),
+            names: Items::new(alloc),
+        }),
+    }
 }
 
 /// Per choice of the entry's run the bytes of the name of the variable that takes it: a constant, a global, a local of the
@@ -122,8 +153,6 @@ pub fn asked(
     requires { entry < length prog.now.procs }
     ensures { IfOk result (λ names. HasNames prog.now entry bound choices.now names) }
 {
-    match begin(alloc, prog, entry)? {
-        Begun::Going(state) => names_on(alloc, prog, bound, choices, state),
-        Begun::Over(_) => Ok(Items::new(alloc)),
-    }
+    let run = whole_run(alloc, prog, entry, bound, choices)?;
+    Ok(run.names)
 }

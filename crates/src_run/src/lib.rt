@@ -13,7 +13,7 @@ mod searching;
 mod state;
 mod stepping;
 
-pub use asking::asked;
+pub use asking::{Run, asked, whole_run};
 pub use machine::{Choice, Status};
 pub use plain::is_plain;
 pub use replaying::replay;

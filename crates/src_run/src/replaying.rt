@@ -106,9 +106,9 @@ fn is_bad(status: Status) -> bool
     }
 }
 
-// The status of a run that is over, where the next choice would have this index: a choice that is left is a bad one.
+/// The status of a run that is over, where the next choice would have this index: a choice that is left is a bad one.
 #[tactic(auto, using(crate::proofs::Replays::is_left, crate::proofs::Replays::none_left))]
-fn ending(status: Status, index: usize, choices: &[Choice]) -> Status
+pub fn ending(status: Status, index: usize, choices: &[Choice]) -> Status
     ensures { result ≡ spec.ending status index (drop index choices.now) }
 {
     if is_bad(status) {
