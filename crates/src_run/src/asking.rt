@@ -117,7 +117,8 @@ fn run_on(
     Err(AllocError)
 }
 
-/// The entry's run on a list of choices: its status, as `replay` gives it, and the names, as `asked` gives them, in one walk.
+/// The entry's run on a list of choices: its only status, as `replay` gives it, and the names, as `asked` gives them, in one
+/// walk.
 /// `AllocError` comes as in `replay`.
 pub fn whole_run(
     alloc: Global,
