@@ -1,3 +1,4 @@
+pub mod Printed
 pub mod Back
 pub mod BackValues
 pub mod Bytes

@@ -5,3 +5,4 @@ pub mod Traces
 pub mod Values
 pub mod Words
 pub mod ReadingBack
+pub mod Printing
