@@ -9,11 +9,12 @@ use Rattle.hy_val.specs.declared.expr.Var.TheVariants.{Const, Global, Local}
 use Rattle.hy_val.specs.declared.sort.Sort.{Sort}
 use Rattle.hy_val.specs.declared.value.Value.{Value}
 use Rattle.src_prog.specs.Program.{Program}
-use Rattle.src_prog.specs.Scope.{sorts_of, locals_of, sort_of_target}
-use Rattle.src_prog.specs.Shape.{is_program, names_fit, are_numbered, scope_of}
+use Rattle.src_prog.specs.Scope.{sorts_of, locals_of}
+use Rattle.src_prog.specs.Shape.{is_program, names_fit, scope_of}
+use Rattle.hy_val.specs.Scope.{are_numbered, sort_of_target}
 use Rattle.src_prog.specs.declared.proc.Named.{Named}
 use Rattle.src_prog.specs.declared.proc.SrcProc.{SrcProc}
-use Rattle.src_run.proofs.Environments.{and-second, and-both, all-at}
+use Rattle.hy_val.proofs.Booleans.{and-second, and-both, all-at}
 use Rattle.src_run.proofs.Programs.{names_of_proc, names_of_consts, names_of_globals}
 use Rattle.src_run.proofs.Sorting.{begin_sorted, tick_sorted, choice_sorted}
 use Rattle.src_run.proofs.Takes.{local_sort}

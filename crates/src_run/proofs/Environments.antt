@@ -1,23 +1,22 @@
 -- The commands of a plain program in an environment of bools: what they read is there, and what they write is a bool.
-use Rattle.std.proofs.Common.{◌≡◌, ℕ, zero, suc, ◌+◌, ◌-◌, ◌≤◌, nat_le, Bool, true, false, not, ◌&&◌, List, [], ◌∷◌, length, map, take, drop, slice_get, slice_set, Option, None, Some, arith, sym, ◌∙◌, ap, refl, subst, IsTrue}
+use Rattle.std.proofs.Common.{◌≡◌, ℕ, zero, suc, ◌+◌, ◌-◌, ◌≤◌, nat_le, Bool, true, not, ◌&&◌, List, [], ◌∷◌, length, map, take, drop, slice_get, slice_set, Option, None, Some, arith, sym, ◌∙◌, ap, refl, subst, IsTrue}
 use Rattle.std.specs.List.{list_all}
 use Rattle.std.proofs.lemmas.Bool.Decides.{nat_tests}
 use Rattle.hy_val.proofs.Booleans.{and-first, and-second, and-both, all-at}
 use Rattle.hy_val.proofs.Scopes.{AreThere, reads_expr, pairs_read}
-use Rattle.hy_val.specs.Exprs.{eval, reads, node_reads, is_there, variable}
+use Rattle.hy_val.specs.Exprs.{eval, reads, is_there}
 use Rattle.hy_val.specs.Laws.{EachNodeHasItsSort}
 use Rattle.hy_val.specs.NodeSorts.{same_sort}
 use Rattle.hy_val.specs.Values.{has_sort}
 use Rattle.hy_val.specs.declared.expr.Env.{Env}
 use Rattle.hy_val.specs.declared.expr.ExprNode.{ExprNode}
-use Rattle.hy_val.specs.declared.expr.ExprNode.TheVariants.{Lit, Var as Read, Unary, Binary, If, Select, Store}
 use Rattle.hy_val.specs.declared.expr.Var.{Var}
 use Rattle.hy_val.specs.declared.expr.Var.TheVariants.{Const, Global, Local}
 use Rattle.hy_val.specs.declared.sort.ScalarKind.TheVariants.{Bool as BoolSort, Bv as BvSort}
 use Rattle.hy_val.specs.declared.sort.Sort.{Sort}
 use Rattle.hy_val.specs.declared.sort.SortKind.TheVariants.{Scalar as ScalarSort, Map as MapSort}
 use Rattle.hy_val.specs.declared.value.Value.{Value}
-use Rattle.hy_val.specs.Scope.{Scope, node_fits, expr_fits, is_condition, is_sort_of, are_same, sort_of_variable, sort_of_target, sort_of_expr, pair_fits}
+use Rattle.hy_val.specs.Scope.{Scope, node_fits, expr_fits, is_condition, is_sort_of, are_same, sort_of_target, sort_of_expr, pair_fits}
 use Rattle.src_prog.specs.Scope.{cmd_fits}
 use Rattle.src_prog.specs.declared.block.Cmd.{Cmd}
 use Rattle.src_prog.specs.declared.block.Cmd.TheVariants.{Assign, Havoc, Assume, Assert}

@@ -1,24 +1,19 @@
 -- What is known where a run is sorted: the expressions of a command that fits can be evaluated, and so can the axioms, and their values have their sorts.
-use Rattle.std.proofs.Common.{◌≡◌, ℕ, zero, suc, ◌+◌, ◌-◌, ◌<◌, nat_lt, nat_le, true, List, [], ◌∷◌, ◌++◌, length, map, slice_get, Option, None, Some, arith, ◌∙◌, ap, refl, subst}
+use Rattle.std.proofs.Common.{◌≡◌, ℕ, zero, suc, ◌+◌, ◌<◌, nat_lt, nat_le, true, List, [], ◌∷◌, ◌++◌, length, map, slice_get, Option, None, Some, arith, ap, refl, subst}
 use Rattle.std.specs.List.{list_all}
 use Rattle.std.proofs.lemmas.Bool.Decides.{nat_tests}
 use Rattle.std.proofs.lemmas.List.{length-map}
 use Rattle.hy_val.proofs.Scopes.{is_sort_of_is, fitting_sorted}
-use Rattle.hy_val.proofs.Lawful.{has_its_sort}
-use Rattle.hy_val.proofs.ResultSorts.{same_scalar_is}
 use Rattle.hy_val.specs.Exprs.{eval, reads, is_there, variable}
-use Rattle.hy_val.specs.NodeSorts.{same_sort}
-use Rattle.hy_val.specs.Sorts.{same_scalar}
 use Rattle.hy_val.specs.Values.{has_sort}
 use Rattle.hy_val.specs.declared.expr.Env.{Env}
 use Rattle.hy_val.specs.declared.expr.ExprNode.{ExprNode}
 use Rattle.hy_val.specs.declared.expr.Var.{Var}
 use Rattle.hy_val.specs.declared.expr.Var.TheVariants.{Const, Global, Local}
 use Rattle.hy_val.specs.declared.sort.Sort.{Sort}
-use Rattle.hy_val.specs.declared.sort.SortKind.TheVariants.{Scalar as ScalarSort, Map as MapSort}
 use Rattle.hy_val.specs.declared.value.Value.{Value}
 use Rattle.src_prog.specs.Program.{Program}
-use Rattle.hy_val.specs.Scope.{Scope, sort_of_variable, is_sort_of, are_same, node_fits, sort_of_expr, expr_fits, is_condition}
+use Rattle.hy_val.specs.Scope.{Scope, sort_of_variable, is_sort_of, expr_fits, is_condition}
 use Rattle.src_prog.specs.Scope.{sorts_of, locals_of, args_fit, call_fits, cmd_fits}
 use Rattle.src_prog.specs.Shape.{is_program, scope_of, constant_scope}
 use Rattle.hy_val.specs.Scope.{ascend_from}

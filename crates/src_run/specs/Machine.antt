@@ -1,7 +1,7 @@
 -- The machine on a list of choices (This is Boogie 2, commands and their runs; the choices and the bound are this project's own).
 -- A configuration is a status, the constants' and globals' values, what is still asked for, and the open frames, innermost first. One choice is
 -- taken at a time, and then the run goes on by single steps until a choice is asked for or it is over.
-use Rattle.std.specs.Prelude.{◌≡◌, ℕ, zero, suc, ◌+◌, nat_eq, nat_lt, Bool, true, false, ◌&&◌, List, [], ◌∷◌, ◌++◌, map, length, take, drop, filter, slice_get, Option, None, Some, if◌then◌else◌}
+use Rattle.std.specs.Prelude.{◌≡◌, ℕ, zero, suc, ◌+◌, nat_eq, nat_lt, Bool, ◌&&◌, List, [], ◌∷◌, ◌++◌, map, length, take, drop, filter, slice_get, Option, None, Some, if◌then◌else◌}
 use Rattle.std.specs.List.{list_all}
 use Rattle.hy_val.specs.Exprs.{eval}
 use Rattle.hy_val.specs.Scope.{sort_of_target}

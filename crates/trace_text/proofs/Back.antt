@@ -1,27 +1,21 @@
 -- Traces that are written are read back.
-use Rattle.std.proofs.Common.{◌≡◌, ℕ, ◌+◌, ◌-◌, ◌<◌, ◌≤◌, ◌^◌, Bool, true, false, ◌&&◌, List, [], ◌∷◌, ◌++◌, length, map, All, arith, refl, sym, ◌∙◌, ap, subst, append_assoc}
-use Rattle.std.specs.Prelude.{nat_lt, decimal, Option, None, Some, option_map, Result, Ok, Err, slice_index, codes, if◌then◌else◌}
+use Rattle.std.proofs.Common.{◌≡◌, ℕ, ◌+◌, ◌-◌, ◌<◌, ◌^◌, true, false, ◌&&◌, List, [], ◌∷◌, ◌++◌, length, map, All, arith, refl, sym, ◌∙◌, ap, append_assoc}
+use Rattle.std.specs.Prelude.{nat_lt, decimal, None, Some, option_map, Ok, slice_index, codes}
 use Rattle.std.specs.Char.{is_ascii_digit}
 use Rattle.std.specs.List.{list_all, flat_map}
 use Rattle.std.specs.Option.{option_map_or}
 use Rattle.std.proofs.lemmas.Bool.{and_parts}
-use Rattle.std.proofs.lemmas.List.{append-nil}
-use Rattle.std.proofs.lemmas.List.Elements.{All-nil, All-cons, All-head, All-tail}
-use Rattle.hy_val.specs.Values.{has_sort}
-use Rattle.hy_val.specs.declared.value.Value.{Value}
+use Rattle.std.proofs.lemmas.List.Elements.{All-head, All-tail}
 use Rattle.bpl_tok.specs.Bytes.{begins_ident, in_ident}
 use Rattle.src_run.specs.Names.{Name}
 use Rattle.src_run.specs.declared.machine.Choice.{Choice}
 use Rattle.src_run.specs.declared.machine.Choice.TheVariants.{Go, Val}
-use Rattle.trace_text.specs.Reading.{without_empty_end, lines_of, number_of, line_of_words, line_of, behind_item, ended, with_line, trace_of_lines, headed, trace_of}
-use Rattle.trace_text.specs.ReadingBack.{CanBeRead, IsReadable, TracesAreReadBack}
-use Rattle.trace_text.specs.Traces.{line, choice_line, item_line, end_line, text_of_trace}
+use Rattle.trace_text.specs.Reading.{without_empty_end, lines_of, number_of, line_of_words, line_of, behind_item, with_line, trace_of_lines, headed}
+use Rattle.trace_text.specs.ReadingBack.{CanBeRead, TracesAreReadBack}
+use Rattle.trace_text.specs.Traces.{choice_line, item_line, end_line, text_of_trace}
 use Rattle.trace_text.specs.Values.{value_text}
 use Rattle.trace_text.specs.Words.{parts, is_identifier}
-use Rattle.trace_text.specs.declared.reading.lines.Line.{Line}
 use Rattle.trace_text.specs.declared.reading.lines.Line.TheVariants.{Item, End}
-use Rattle.trace_text.specs.declared.trace.Trace.{Trace}
-use Rattle.trace_text.specs.declared.trace.TraceFault.{TraceFault}
 use Rattle.trace_text.specs.declared.trace.TraceItem.{TraceItem}
 use Rattle.trace_text.proofs.BackValues.{is_in_value, value_read, value_bytes}
 use Rattle.trace_text.proofs.Bytes.{Free, free, free-both, cons_free, none_free, one_part, first_part, decimal_all, number_read}
@@ -91,7 +85,7 @@ end_free proc assert is h =
 content_read : (name : Name) (choice : Choice) → CanBeRead name choice → line_of (content name choice) ≡ Some (Item (record { name = name; choice = choice }))
 content_read None (Go place) h =
     let cut : parts 32 (103 ∷ 32 ∷ decimal place) ≡ (103 ∷ []) ∷ decimal place ∷ [] =
-        first_part 32 (103 ∷ []) (decimal place) (cons_free 32 103 [] refl (none_free 32)) ∙ ap (λ ps. (103 ∷ []) ∷ ps) (one_part 32 (decimal place) (number_free 32 space place h)) in
+    first_part 32 (103 ∷ []) (decimal place) (cons_free 32 103 [] refl (none_free 32)) ∙ ap (λ ps. (103 ∷ []) ∷ ps) (one_part 32 (decimal place) (number_free 32 space place h)) in
     let number : number_of (decimal place) ≡ Some place = number_read (2 ^ 32 - 1) place (omega arith) (omega arith) in
     ap line_of_words cut ∙ ap (option_map (λ n. Item (record { name = None; choice = Go n }))) number
 content_read (Some name) (Go place) h = absurd h
@@ -99,15 +93,15 @@ content_read None (Val value) h = absurd h
 content_read (Some name) (Val value) (is, sort, s, v) =
     let text = value_text value in
     let cut : parts 32 (118 ∷ 32 ∷ (name ++ 32 ∷ text)) ≡ (118 ∷ []) ∷ name ∷ text ∷ [] =
-        first_part 32 (118 ∷ []) (name ++ 32 ∷ text) (cons_free 32 118 [] refl (none_free 32))
-        ∙ ap (λ ps. (118 ∷ []) ∷ ps) (first_part 32 name text (identifier_free 32 space name is) ∙ ap (λ ps. name ∷ ps) (one_part 32 text (free is_in_value 32 refl text (value_bytes value sort s v)))) in
+    first_part 32 (118 ∷ []) (name ++ 32 ∷ text) (cons_free 32 118 [] refl (none_free 32))
+    ∙ ap (λ ps. (118 ∷ []) ∷ ps) (first_part 32 name text (identifier_free 32 space name is) ∙ ap (λ ps. name ∷ ps) (one_part 32 text (free is_in_value 32 refl text (value_bytes value sort s v)))) in
     ap line_of_words cut ∙ rw (is, value_read value sort s v) refl
 
 end_read : (proc : List ℕ) (assert : ℕ) → is_identifier proc ≡ true → assert < 2 ^ 32 → line_of (end_content proc assert) ≡ Some (End proc assert)
 end_read proc assert is h =
     let cut : parts 32 (end_content proc assert) ≡ codes "fails" ∷ proc ∷ decimal assert ∷ [] =
-        first_part 32 (codes "fails") (proc ++ 32 ∷ decimal assert) (free in_ident 32 refl (codes "fails") refl)
-        ∙ ap (λ ps. codes "fails" ∷ ps) (first_part 32 proc (decimal assert) (identifier_free 32 space proc is) ∙ ap (λ ps. proc ∷ ps) (one_part 32 (decimal assert) (number_free 32 space assert h))) in
+    first_part 32 (codes "fails") (proc ++ 32 ∷ decimal assert) (free in_ident 32 refl (codes "fails") refl)
+    ∙ ap (λ ps. codes "fails" ∷ ps) (first_part 32 proc (decimal assert) (identifier_free 32 space proc is) ∙ ap (λ ps. proc ∷ ps) (one_part 32 (decimal assert) (number_free 32 space assert h))) in
     let number : number_of (decimal assert) ≡ Some assert = number_read (2 ^ 32 - 1) assert (omega arith) (omega arith) in
     ap line_of_words cut ∙ rw (is, number) refl
 
@@ -139,8 +133,8 @@ module _ (proc : List ℕ) (assert : ℕ) (is : is_identifier proc ≡ true) (h 
   text_lines items readable =
       let body = flat_map item_line items ++ end_line proc assert in
       let cut : parts 10 (codes "Bug" ++ 10 ∷ body) ≡ (codes "Bug" ∷ (contents items ++ end_content proc assert ∷ [])) ++ [] ∷ [] =
-          first_part 10 (codes "Bug") body (free in_ident 10 refl (codes "Bug") refl)
-          ∙ ap (λ ps. codes "Bug" ∷ ps) (body_cut items readable ∙ sym (append_assoc (contents items) (end_content proc assert ∷ []) ([] ∷ []))) in
+      first_part 10 (codes "Bug") body (free in_ident 10 refl (codes "Bug") refl)
+      ∙ ap (λ ps. codes "Bug" ∷ ps) (body_cut items readable ∙ sym (append_assoc (contents items) (end_content proc assert ∷ []) ([] ∷ []))) in
       ap without_empty_end cut ∙ end_push (codes "Bug" ∷ (contents items ++ end_content proc assert ∷ [])) []
 
 pub traces_are_read_back : TracesAreReadBack

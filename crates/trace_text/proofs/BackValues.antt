@@ -1,14 +1,13 @@
 -- Values that are written are read back.
-use Rattle.std.proofs.Common.{◌≡◌, ℕ, ◌+◌, ◌-◌, ◌<◌, ◌≤◌, ◌^◌, Bool, true, false, ◌&&◌, List, [], ◌∷◌, ◌++◌, length, map, drop, arith, refl, sym, ◌∙◌, ap, subst, append_assoc, length-append}
-use Rattle.std.specs.Prelude.{◌==◌, ◌||◌, not, nat_eq, nat_le, nat_lt, decimal, Option, None, Some, option_map, codes, if◌then◌else◌}
+use Rattle.std.proofs.Common.{◌≡◌, ℕ, ◌-◌, ◌<◌, ◌≤◌, ◌^◌, Bool, true, false, ◌&&◌, List, [], ◌∷◌, ◌++◌, length, map, arith, refl, sym, ◌∙◌, ap, subst, append_assoc, length-append}
+use Rattle.std.specs.Prelude.{◌==◌, ◌||◌, not, nat_eq, nat_le, nat_lt, decimal, None, Some, option_map, codes}
 use Rattle.std.specs.Char.{is_ascii_digit}
-use Rattle.std.specs.List.{list_all, starts_with}
-use Rattle.std.specs.Option.{option_or, option_zip}
+use Rattle.std.specs.List.{list_all}
+use Rattle.std.specs.Option.{option_or}
 use Rattle.std.specs.Str.{bytes_eq}
 use Rattle.std.proofs.lemmas.Bool.{and_parts, ne_eqb, eqb-true}
 use Rattle.std.proofs.lemmas.Bool.Decides.{nat_tests}
 use Rattle.std.proofs.lemmas.List.{append-nil}
-use Rattle.std.proofs.lemmas.List.Elements.{All-nil, All-cons}
 use Rattle.std.proofs.Math.Pow.{pow_mono}
 use Rattle.hy_val.specs.Maps.{is_map, pair_fits, pairs_fit, ascends}
 use Rattle.hy_val.specs.Sorts.{has_scalar, is_scalar, same_scalar, is_zero}
@@ -23,10 +22,10 @@ use Rattle.hy_val.specs.declared.sort.Sort.{Sort}
 use Rattle.hy_val.specs.declared.sort.SortKind.TheVariants.{Scalar as ScalarSort, Map as MapSort}
 use Rattle.hy_val.specs.declared.value.Value.{Value}
 use Rattle.hy_val.specs.declared.value.Value.TheVariants.{Atom as AtomValue, Map as MapValue}
-use Rattle.trace_text.specs.ReadValues.{around_bv, width_of, bits_of, atom_of, bits_sort, scalar_of, pair_of, before_pairs, each_pair, pairs_of, map_with, map_parts, map_of, value_of}
+use Rattle.trace_text.specs.ReadValues.{around_bv, width_of, bits_of, atom_of, scalar_of, pair_of, each_pair, pairs_of, map_parts, map_of, value_of}
 use Rattle.trace_text.specs.Values.{scalar_text, atom_text, pair_text, more_pairs_text, pairs_text, map_text, value_text}
-use Rattle.trace_text.specs.Words.{and_then, halves, parts, number_up_to}
-use Rattle.trace_text.proofs.Bytes.{and-both, all-both, all-wider, Free, free, free-both, cons_free, none_free, one_part, first_part, two_halves, no_halves, decimal_all, decimal_some, number_read}
+use Rattle.trace_text.specs.Words.{halves, parts}
+use Rattle.trace_text.proofs.Bytes.{all-both, all-wider, Free, free, free-both, cons_free, none_free, one_part, first_part, two_halves, no_halves, decimal_all, decimal_some, number_read}
 
 -- ---- which bytes stand in the texts of values
 
@@ -255,17 +254,25 @@ map_is m = regroup (scalar_text m.index) (scalar_text m.elem) (pairs_text m.pair
 parts_read : (i e p : List ℕ) → list_all is_word i ≡ true → list_all is_word e ≡ true → list_all is_in_pairs p ≡ true → map_parts (spread i e p) ≡ Some (i, e, p)
 parts_read i e p hi he hp =
     let end : (byte : ℕ) → (125 == byte) ≡ false → is_in_pairs byte ≡ false → Free byte (p ++ 125 ∷ []) =
-        λ byte k l. free-both byte p (125 ∷ []) (free is_in_pairs byte l p hp) (cons_free byte 125 [] k (none_free byte)) in
+    λ byte k l. free-both byte p (125 ∷ []) (free is_in_pairs byte l p hp) (cons_free byte 125 [] k (none_free byte)) in
     let behind : Free 93 (e ++ 123 ∷ (p ++ 125 ∷ [])) =
-        free-both 93 e (123 ∷ (p ++ 125 ∷ [])) (free is_word 93 refl e he) (cons_free 93 123 (p ++ 125 ∷ []) refl (end 93 refl refl)) in
-    rw (two_halves 93 i (e ++ 123 ∷ (p ++ 125 ∷ [])) (free is_word 93 refl i hi) behind,
-    two_halves 123 e (p ++ 125 ∷ []) (free is_word 123 refl e he) (end 123 refl refl),
-    two_halves 125 p [] (free is_in_pairs 125 refl p hp) (none_free 125)) refl
+    free-both 93 e (123 ∷ (p ++ 125 ∷ [])) (free is_word 93 refl e he) (cons_free 93 123 (p ++ 125 ∷ []) refl (end 93 refl refl)) in
+    rw (
+      two_halves 93 i (e ++ 123 ∷ (p ++ 125 ∷ [])) (free is_word 93 refl i hi) behind,
+      two_halves 123 e (p ++ 125 ∷ []) (free is_word 123 refl e he) (end 123 refl refl),
+      two_halves 125 p [] (free is_in_pairs 125 refl p hp) (none_free 125),
+    ) refl
 
 map_read : (m : Table) → IsWhole m → map_of (map_text m) ≡ Some m
 map_read m w =
-    rw (map_is m, parts_read (scalar_text m.index) (scalar_text m.elem) (pairs_text m.pairs) (scalar_words m.index w.index) (scalar_words m.elem w.elem) (all_pairs_words m.index m.elem m.pairs w.pairs),
-    scalar_read m.index w.index, scalar_read m.elem w.elem, pairs_read m.index m.elem m.pairs w.pairs, w.map) refl
+    rw (
+      map_is m,
+      parts_read (scalar_text m.index) (scalar_text m.elem) (pairs_text m.pairs) (scalar_words m.index w.index) (scalar_words m.elem w.elem) (all_pairs_words m.index m.elem m.pairs w.pairs),
+      scalar_read m.index w.index,
+      scalar_read m.elem w.elem,
+      pairs_read m.index m.elem m.pairs w.pairs,
+      w.map,
+    ) refl
 
 -- two sorts have two `b`
 twice : (i e p : List ℕ) → Free 98 i → halves 98 (spread (98 ∷ i) (98 ∷ e) p) ≡ None

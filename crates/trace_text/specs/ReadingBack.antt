@@ -1,5 +1,5 @@
 -- Traces that are written are read back.
-use Rattle.std.specs.Prelude.{◌≡◌, ◌<◌, ◌^◌, Option, None, Some, Ok, IsTrue}
+use Rattle.std.specs.Prelude.{◌≡◌, ◌<◌, ◌^◌, None, Some, Ok, IsTrue}
 use Rattle.std.specs.List.{All}
 use Rattle.hy_val.specs.NodeSorts.{is_sort}
 use Rattle.hy_val.specs.Values.{has_sort}

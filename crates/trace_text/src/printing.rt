@@ -68,11 +68,7 @@ fn put_choices(
     Ok(())
 }
 
-fn put_named(
-    text: &mut Bytes,
-    name: &Option<Items<u8>>,
-    choice: &Choice,
-) -> Result<(), AllocError>
+fn put_named(text: &mut Bytes, name: &Option<Items<u8>>, choice: &Choice) -> Result<(), AllocError>
     ensures { OnOk result (text.new ≡ text.old ++ item_line (record { name = name.now; choice = choice.now })) }
 {
     match name {

@@ -26,7 +26,8 @@ pub returns-in-Over : goal.returns-in-Over
 returns-in-Over c =
     let turned = rw c.in-Over.is at (c.in_ok-next.ensures {u = tt}) in
     let old = config_of c.loop.state in
-    let left = drop c.loop.index c.args.choices.now in
-    (c.loop.invariant.reaches c.in-Over.status (finished c.args.prog.now c.args.bound c.loop.index old left c.in-Over.status turned),
-    subst (NamesCome c.args.prog.now c.args.bound 0 (config_of c.args.state) c.args.choices.now) (sym (c.in_ok-name_turn.ensures {u = tt}))
-    (c.loop.invariant.names (turn_names c.args.prog.now old old.status left) (finished_names c.args.prog.now c.args.bound c.loop.index old left c.in-Over.status turned)))
+    let left = drop c.loop.index c.args.choices.now in (
+      c.loop.invariant.reaches c.in-Over.status (finished c.args.prog.now c.args.bound c.loop.index old left c.in-Over.status turned),
+      subst (NamesCome c.args.prog.now c.args.bound 0 (config_of c.args.state) c.args.choices.now) (sym (c.in_ok-name_turn.ensures {u = tt}))
+          (c.loop.invariant.names (turn_names c.args.prog.now old old.status left) (finished_names c.args.prog.now c.args.bound c.loop.index old left c.in-Over.status turned)),
+    )

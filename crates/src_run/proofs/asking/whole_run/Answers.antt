@@ -19,6 +19,8 @@ pub returns-in-Over : goal.returns-in-Over
 returns-in-Over c =
     let begun = rw c.in-Over.is at (c.in_ok-state.ensures {u = tt}) in
     let first = begin c.args.prog.now c.args.entry in
-    let status : HasStatus c.args.prog.now c.args.entry c.args.bound c.args.choices.now c.ending.result = rw c.ending.ensures (stands c.args.prog.now c.args.bound 0 first c.args.choices.now c.in-Over.status begun.0 begun.1) in
-    (status, rw c.new.ensures (over_names c.args.prog.now c.args.bound 0 first c.args.choices.now c.in-Over.status begun.0 begun.1),
-    λ other o. one_status c.args.prog.now c.args.bound 0 first c.args.choices.now other c.ending.result o status)
+    let status : HasStatus c.args.prog.now c.args.entry c.args.bound c.args.choices.now c.ending.result = rw c.ending.ensures (stands c.args.prog.now c.args.bound 0 first c.args.choices.now c.in-Over.status begun.0 begun.1) in (
+      status,
+      rw c.new.ensures (over_names c.args.prog.now c.args.bound 0 first c.args.choices.now c.in-Over.status begun.0 begun.1),
+      λ other o. one_status c.args.prog.now c.args.bound 0 first c.args.choices.now other c.ending.result o status,
+    )
