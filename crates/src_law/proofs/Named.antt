@@ -1,5 +1,5 @@
 -- The names of a run's choices.
-use Rattle.std.proofs.Common.{◌≡◌, ℕ, zero, suc, ◌+◌, Bool, true, false, if◌then◌else◌, List, [], ◌∷◌, ◌++◌, length, map, slice_get, Option, None, Some, option_map, arith, refl, sym, ◌∙◌, ap, subst, inl, inr, ◌⊎◌}
+use Rattle.std.proofs.Common.{◌≡◌, ℕ, zero, suc, ◌+◌, Bool, true, false, if◌then◌else◌, List, [], ◌∷◌, ◌++◌, length, slice_get, Option, None, Some, option_map, arith, refl, sym, ◌∙◌, ap, subst, inl, inr, ◌⊎◌}
 use Rattle.std.specs.List.{list_all}
 use Rattle.std.proofs.lemmas.List.Folds.{list_all-append}
 use Rattle.hy_val.specs.NodeSorts.{is_sort}
@@ -22,11 +22,11 @@ use Rattle.src_run.specs.declared.machine.Choice.{Choice}
 use Rattle.src_run.specs.declared.machine.Choice.TheVariants.{Go, Val}
 use Rattle.src_run.specs.declared.machine.Status.{Status}
 use Rattle.src_run.specs.declared.machine.Status.TheVariants.{Going, Ended, Failed, Blocked, Cut, BadChoice}
-use Rattle.src_run.specs.Machine.{Config, Frame, Want, AConst, AGlobal, ALocal, AVariable, ATarget, Turn, Stands, GoesOn, tick, take_choice, bad, turn, going, over, after, within, begin, begin_in, HasStatus}
-use Rattle.src_run.specs.Names.{HasNames, Name, name_at, name_of, names_asked, names_behind, names_within, turn_names, local_names, NamesCome}
+use Rattle.src_run.specs.Machine.{Config, Frame, Want, AConst, AGlobal, ALocal, AVariable, ATarget, Turn, Stands, GoesOn, tick, take_choice, bad, turn, going, over, after, within, begin}
+use Rattle.src_run.specs.Names.{Name, name_at, name_of, names_behind, names_within, turn_names, local_names}
 use Rattle.src_run.specs.Sorted.{AreSorted}
 use Rattle.src_law.specs.AskedNames.{NamesAreUnique, NamesAreOfChoices, Declares, IsTakenBy, AreTakenBy}
-use Rattle.src_law.specs.HeldValues.{AsksNext, IsInnermost}
+use Rattle.src_law.specs.HeldValues.{AsksNext}
 use Rattle.src_law.specs.Statuses.{AreTaken}
 use Rattle.src_law.proofs.Holding.{sorted_asks}
 use Rattle.src_law.proofs.Taken.{Took, tick_took, choice_took, begin_took}
