@@ -1,0 +1,6 @@
+mod Parts
+mod Rows
+mod Turning
+mod Going
+mod Ruling
+mod Reaching

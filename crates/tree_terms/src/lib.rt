@@ -1,0 +1,20 @@
+//! One list of terms for a tree of calls: copies of each procedure's formula, with the terms of callers and callees in
+//! place of its variables, a bool for each node that says that it is reached, and a bool for a list of rules.
+#![tactic(auto)]
+
+mod copying;
+mod linked;
+mod placing;
+mod reach;
+mod rules;
+mod table;
+
+pub use copying::copied;
+pub use linked::{
+    EdgeTerms, FailTerms, Linked, Place, Role, SiteTerms, Source, Template, TrackTerms, count, kid,
+    node_at, parent, site_node, source_of, template_of,
+};
+pub use placing::{placed, renamed};
+pub use reach::reaches;
+pub use rules::{Rule, choice, ruled};
+pub use table::Table;
