@@ -8,14 +8,15 @@ use Rattle.hy_term.specs.Variables.{below}
 use Rattle.hy_term.specs.declared.node.TermNode.{TermNode}
 use Rattle.hy_term.specs.declared.node.TermNode.TheVariants.{Lit, ZeroMap, Variable, Unary, Binary, If, Select, Store}
 use Rattle.tree_terms.specs.Copies.{IsPart}
-use Rattle.tree_terms.proofs.Parts.{sort_low, lt_or_eq, grows_not}
+use Rattle.tree_terms.proofs.Growth.{grows_not, sort_within, sorts_are}
+use Rattle.tree_terms.proofs.Parts.{lt_or_eq}
+use Rattle.tree_terms.proofs.Rows.{row_longer}
 use Rattle.tree_terms.specs.declared.linked.Linked.{Linked}
 use Rattle.tree_terms.specs.declared.linked.Source.{Source}
 use Rattle.tree_terms.specs.declared.linked.Source.TheVariants.{Given, Up, Down, Fresh}
 use Rattle.tree_terms.specs.Linked.{nodes_of, parent, source, IsVariable, IsLinked}
 use Rattle.tree_terms.specs.Copying.{IsCopying, IsReady, waits_at, waits_by, waits, MayGo, IsTurn, Keeps, left_of, AreDone, AreCopied}
 use Rattle.tree_terms.specs.Tables.{row, IsPushed}
-use Rattle.tree_terms.proofs.Rows.{row_longer}
 
 -- ---- down
 
@@ -63,7 +64,7 @@ pub down_goes : (q : Linked) (base : List TermNode) (places : List (List ℕ)) (
 down_goes q base places m c linked go h =
     let w = waits_node q places m c (slice_get (nodes_of q m) (length (row places m))) refl h in
     let d = linked.down m (length (row places m)) w.number c w.place w.sort go.tree w.is w.down in
-    let l : w.place < length (nodes_of q c) = sort_low (nodes_of q c) w.place w.sort (linked.sorted c d.1) d.2 in (
+    let l : w.place < length (nodes_of q c) = sort_within (nodes_of q c) w.place w.sort d.2 in (
       d.0,
       d.1,
       record {
@@ -100,7 +101,7 @@ pub ready_done : (q : Linked) (base : List TermNode) (places : List (List ℕ)) 
 ready_done q base places m linked done here j number i sort is src =
     let u = linked.up m j number i sort here is src in
     let in_tree : parent q m < length q.tree = omega (arith, u.0, here) in
-    let low = sort_low (nodes_of q (parent q m)) i sort (linked.sorted (parent q m) in_tree) u.1 in
+    let low = sort_within (nodes_of q (parent q m)) i sort u.1 in
     let whole = done (parent q m) u.0 in_tree in
     omega (arith, low, whole)
 

@@ -1,3 +1,4 @@
+mod Growth
 mod Parts
 mod Rows
 mod Turning

@@ -21,6 +21,7 @@ use Rattle.hy_term.proofs.Sorting.{there, count_sorts, sorts_push, sort_there, s
 use Rattle.hy_term.proofs.Placing.{node_has_sort}
 use Rattle.hy_term.proofs.Growing.{node_values, value-more}
 use Rattle.tree_terms.specs.Copies.{renamed, is_made, children_below, IsPlaced, Puts, IsPart}
+use Rattle.tree_terms.proofs.Growth.{below_push, fits_before, fits_push, fits_some, later_push, of_sorts, sort_added, sort_here, sort_stays, sort_within, sorts_are, value_stays}
 
 unary_there : (op : UnOp) (o : Option Sort) → IsSome (unary_sort op (as_scalar o)) → IsSome o
 unary_there op None h = cc
@@ -108,10 +109,6 @@ lower known (Store map index value) h =
     (and_from (nat_lt index (length known)) (nat_lt value (length known))
     (lt-ltb index (length known) (there known index (place_there (slice_get known map) (slice_get known index) (slice_get known value) h)))
     (lt-ltb value (length known) (there known value (entry_there (slice_get known map) (slice_get known index) (slice_get known value) h))))
-
-pub sorts_are : (o : Option (List Sort)) → IsSome o → (ss : List Sort) × (o ≡ Some ss)
-sorts_are None h = cc
-sorts_are (Some ss) h = (ss, refl)
 
 some_at : (ss : List Sort) (k : ℕ) → k < length ss → IsSome (slice_get ss k)
 some_at [] k h = absurd (omega (arith, h))
@@ -201,23 +198,6 @@ take_at (s ∷ ss) zero j h = absurd (omega (arith, h))
 take_at (s ∷ ss) (suc k) zero h = refl
 take_at (s ∷ ss) (suc k) (suc j) h = take_at ss k j (omega (arith, h))
 
-of_sorts : (nodes : List TermNode) (ss : List Sort) (k : ℕ) → sorts nodes ≡ Some ss → sort_at nodes k ≡ slice_get ss k
-of_sorts nodes ss k is = ap (λ (o : Option (List Sort)). option_and_then (λ xs. slice_get xs k) o) is
-
--- each node has a sort
-pub sort_here : (nodes : List TermNode) (k : ℕ) → IsSome (sorts nodes) → k < length nodes → (s : Sort) × (sort_at nodes k ≡ Some s)
-sort_here nodes k ok within =
-    let n = sorts_are (sorts nodes) ok in
-    let s = sort_there nodes n.0 k n.1 within in
-    (s.0, of_sorts nodes n.0 k n.1 ∙ s.1)
-
--- a sort is that of a node
-pub sort_low : (nodes : List TermNode) (t : ℕ) (s : Sort) → IsSome (sorts nodes) → sort_at nodes t ≡ Some s → t < length nodes
-sort_low nodes t s ok is =
-    let n = sorts_are (sorts nodes) ok in
-    let e : slice_get n.0 t ≡ Some s = sym (of_sorts nodes n.0 t n.1) ∙ is in
-    omega (arith, count_sorts nodes n.0 n.1, there n.0 t (subst (λ (o : Option Sort). IsSome o) (sym e) refl))
-
 -- where the copies before a node that is no variable have their sorts, its copy may stand behind, with its sort
 pub copy_fits : (nodes into : List TermNode) (places : List ℕ) (node : TermNode) → IsSome (sorts nodes) → IsSome (sorts into) → IsPart nodes into places
     → slice_get nodes (length places) ≡ Some node → is_made node ≡ true
@@ -239,62 +219,13 @@ copy_fits nodes into places node ok into_ok part at made =
       behind ∙ (sym sort ∙ sym (of_sorts nodes n.0 k n.1)),
     )
 
--- ---- terms that grow
-
-slice_left : (ss ts : List Sort) (k : ℕ) → k < length ss → slice_get (ss ++ ts) k ≡ slice_get ss k
-slice_left [] ts k l = absurd (omega (arith, l))
-slice_left (s ∷ ss) ts zero l = refl
-slice_left (s ∷ ss) ts (suc k) l = slice_left ss ts k (omega (arith, l))
-
-longer_by : (known : List Sort) (xs : List TermNode) (ss : List Sort) (o : Option Sort) → option_and_then (λ s. sorts_onto (known ++ s ∷ []) xs) o ≡ Some ss
-    → ((s : Sort) → sorts_onto (known ++ s ∷ []) xs ≡ Some ss → (more : List Sort) × (ss ≡ (known ++ s ∷ []) ++ more)) → (more : List Sort) × (ss ≡ known ++ more)
-longer_by known xs ss None e rest = cc
-longer_by known xs ss (Some s) e rest =
-    let r = rest s e in
-    (s ∷ r.0, r.1 ∙ append_assoc known (s ∷ []) r.0)
-
-onto_longer : (known : List Sort) (nodes : List TermNode) (ss : List Sort) → sorts_onto known nodes ≡ Some ss → (more : List Sort) × (ss ≡ known ++ more)
-onto_longer known [] ss h = let e : known ≡ ss = cc in ([], sym e ∙ sym (append-nil known))
-onto_longer known (x ∷ xs) ss h = longer_by known xs ss (sort_of_node known x) h (λ s e. onto_longer (known ++ s ∷ []) xs ss e)
-
--- sorts stay where nodes stand behind
-pub sort_stays : (old new : List TermNode) (t : ℕ) → IsSome (sorts old) → IsSome (sorts new) → Grows old new → t < length old → sort_at new t ≡ sort_at old t
-sort_stays old new t ok new_ok g low =
-    let o = sorts_are (sorts old) ok in
-    let n = sorts_are (sorts new) new_ok in
-    let e : sorts_onto o.0 g.0 ≡ Some n.0 =
-    ap (λ (x : Option (List Sort)). option_and_then (λ ss. sorts_onto ss g.0) x) (sym o.1) ∙ (sym (sorts-append [] old g.0) ∙ (ap sorts (sym g.1) ∙ n.1)) in
-    let m = onto_longer o.0 g.0 n.0 e in
-    of_sorts new n.0 t n.1
-    ∙ (ap (λ (ss : List Sort). slice_get ss t) m.1
-    ∙ (slice_left o.0 m.0 t (omega (arith, low, count_sorts old o.0 o.1))
-    ∙ sym (of_sorts old o.0 t o.1)))
-
-fits_left : (a : ℕ → Value) (xs ys : List TermNode) → IsTrue (fits a (xs ++ ys)) → IsTrue (fits a xs)
-fits_left a [] ys h = refl
-fits_left a (x ∷ xs) ys h =
-    let b = and_parts (node_fits a x) (fits a (xs ++ ys)) h in
-    and_from (node_fits a x) (fits a xs) b.0 (fits_left a xs ys b.1)
-
-pub fits_before : (a : ℕ → Value) (old new : List TermNode) → Grows old new → IsTrue (fits a new) → IsTrue (fits a old)
-fits_before a old new g h = fits_left a old g.0 (subst (λ (ns : List TermNode). IsTrue (fits a ns)) g.1 h)
-
-pub value_stays : (a : ℕ → Value) (old new : List TermNode) (t : ℕ) → Grows old new → t < length old → value a new t ≡ value a old t
-value_stays a old new t g low = ap (λ (ns : List TermNode). value a ns t) g.1 ∙ value-more a old g.0 t low
-
-pub grows_on : (old mid new : List TermNode) → Grows old mid → Grows mid new → Grows old new
-grows_on old mid new g h = (g.0 ++ h.0, h.1 ∙ (ap (λ (ns : List TermNode). ns ++ h.0) g.1 ∙ append_assoc old g.0 h.0))
-
-pub grows_not : (old : List TermNode) → Grows old old
-grows_not old = ([], sym (append-nil old))
-
 -- ---- parts
 
 -- each place is a term
 pub place_low : (nodes into : List TermNode) (places : List ℕ) (j : ℕ) → IsSome (sorts nodes) → IsSome (sorts into) → IsPart nodes into places → j < length places → slice_index places j < length into
 place_low nodes into places j ok into_ok part l =
     let s = sort_here nodes j ok (omega (arith, l, part.count)) in
-    sort_low into (slice_index places j) s.0 into_ok (part.sorts_are j l ∙ s.1)
+    sort_within into (slice_index places j) s.0 (part.sorts_are j l ∙ s.1)
 
 pub part_stays : (nodes old new : List TermNode) (places : List ℕ) → IsSome (sorts nodes) → IsSome (sorts old) → IsSome (sorts new) → Grows old new → IsPart nodes old places → IsPart nodes new places
 part_stays nodes old new places ok old_ok new_ok g part = record {
@@ -391,49 +322,6 @@ variable_fits nodes k number sort ok at known n =
 
 -- ---- the node itself, put behind
 
--- a node behind others that has a sort there
-pub added_sorts : (into : List TermNode) (node : TermNode) (s : Sort) → IsSome (sorts into) → sort_behind into node ≡ Some s
-    → IsSome (sorts (into ++ node ∷ [])) × (sort_at (into ++ node ∷ []) (length into) ≡ Some s)
-added_sorts into node s ok behind =
-    let t = sorts_are (sorts into) ok in
-    let sort : sort_of_node t.0 node ≡ Some s = ap (λ (o : Option (List Sort)). option_and_then (λ xs. sort_of_node xs node) o) (sym t.1) ∙ behind in
-    let more : sorts (into ++ node ∷ []) ≡ Some (t.0 ++ s ∷ []) = sorts_push into node t.0 s t.1 sort in (
-      subst (λ (o : Option (List Sort)). IsSome o) (sym more) refl,
-      of_sorts (into ++ node ∷ []) (t.0 ++ s ∷ []) (length into) more ∙ (ap (slice_get (t.0 ++ s ∷ [])) (sym (count_sorts into t.0 t.1)) ∙ last t.0 s),
-    )
-  where
-    last : (ss : List Sort) (x : Sort) → slice_get (ss ++ x ∷ []) (length ss) ≡ Some x
-    last [] x = refl
-    last (y ∷ ss) x = last ss x
-
-pub fits_added : (a : ℕ → Value) (xs : List TermNode) (node : TermNode) → IsTrue (fits a xs) → IsTrue (node_fits a node) → IsTrue (fits a (xs ++ node ∷ []))
-fits_added a [] node h k = and_from (node_fits a node) true k refl
-fits_added a (x ∷ xs) node h k =
-    let b = and_parts (node_fits a x) (fits a xs) h in
-    and_from (node_fits a x) (fits a (xs ++ node ∷ [])) b.0 (fits_added a xs node b.1 k)
-
-pub below_added : (n : ℕ) (xs : List TermNode) (node : TermNode) → IsTrue (below n xs) → IsTrue (node_below n node) → IsTrue (below n (xs ++ node ∷ []))
-below_added n [] node h k = and_from (node_below n node) true k refl
-below_added n (x ∷ xs) node h k =
-    let b = and_parts (node_below n x) (below n xs) h in
-    and_from (node_below n x) (below n (xs ++ node ∷ [])) b.0 (below_added n xs node b.1 k)
-
-node_below_more : (m n : ℕ) (node : TermNode) → m ≤ n → IsTrue (node_below m node) → IsTrue (node_below n node)
-node_below_more m n (Lit a) l h = refl
-node_below_more m n (ZeroMap i e) l h = refl
-node_below_more m n (Variable number sort) l h = lt-ltb number n (let b = ltb-true number m h in omega (arith, b, l))
-node_below_more m n (Unary op child) l h = refl
-node_below_more m n (Binary op left right) l h = refl
-node_below_more m n (If test one other) l h = refl
-node_below_more m n (Select i j) l h = refl
-node_below_more m n (Store i j v) l h = refl
-
-pub below_more : (m n : ℕ) (xs : List TermNode) → m ≤ n → IsTrue (below m xs) → IsTrue (below n xs)
-below_more m n [] l h = refl
-below_more m n (x ∷ xs) l h =
-    let b = and_parts (node_below m x) (below m xs) h in
-    and_from (node_below n x) (below n xs) (node_below_more m n x l b.0) (below_more m n xs l b.1)
-
 -- nodes that are no variables have none of their own
 pub made_fits : (a : ℕ → Value) (place : ℕ → ℕ) (node : TermNode) → is_made node ≡ true → IsTrue (node_fits a (renamed place node))
 made_fits a place (Lit v) h = refl
@@ -459,13 +347,6 @@ seam : (xs : List TermNode) (node : TermNode) → slice_get (xs ++ node ∷ []) 
 seam [] node = refl
 seam (x ∷ xs) node = seam xs node
 
-pub fits_some : (into : List TermNode) (node : TermNode) → IsTrue (fits_behind into node) → (s : Sort) × (sort_behind into node ≡ Some s)
-fits_some into node h = by_sort (sort_behind into node) refl (and_parts (is_some (sort_behind into node)) (variable_agrees into node) h).0
-  where
-    by_sort : (o : Option Sort) → sort_behind into node ≡ o → is_some o ≡ true → (s : Sort) × (sort_behind into node ≡ Some s)
-    by_sort None e y = absurd (true≢false (sym y))
-    by_sort (Some s) e y = (s, e)
-
 pub added : (into new : List TermNode) (node : TermNode) (t : ℕ) → IsSome (sorts into) → IsTrue (fits_behind into node) → new ≡ into ++ node ∷ [] → t ≡ length into → IsPlaced into new node t
 added into new node t ok fit is last =
     subst (λ (ns : List TermNode). IsPlaced into ns node t) (sym is) (subst (λ (n : ℕ). IsPlaced into (into ++ node ∷ []) node n) (sym last) here)
@@ -473,15 +354,12 @@ added into new node t ok fit is last =
     s : (s : Sort) × (sort_behind into node ≡ Some s)
     s = fits_some into node fit
 
-    a : IsSome (sorts (into ++ node ∷ [])) × (sort_at (into ++ node ∷ []) (length into) ≡ Some s.0)
-    a = added_sorts into node s.0 ok s.1
-
     here : IsPlaced into (into ++ node ∷ []) node (length into)
     here = record {
       grows = (node ∷ [], refl);
-      sorted = a.0;
-      sort = a.1 ∙ sym s.1;
-      means = λ v h. node_values v (into ++ node ∷ []) (length into) node a.0 (seam into node);
-      fits = λ v h k. fits_added v into node h k;
-      low = λ k h l. below_added k into node h l;
+      sorted = (later_push into (into ++ node ∷ []) node s.0 s.1 refl).sound;
+      sort = sort_added into node s.0 s.1 ∙ sym s.1;
+      means = λ v h. node_values v (into ++ node ∷ []) (length into) node (later_push into (into ++ node ∷ []) node s.0 s.1 refl).sound (seam into node);
+      fits = λ v h k. fits_push v into node h k;
+      low = λ k h l. below_push k into node h l;
     }

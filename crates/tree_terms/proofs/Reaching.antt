@@ -5,13 +5,14 @@ use Rattle.hy_val.specs.declared.value.Value.{Value}
 use Rattle.hy_term.specs.TermSorts.{sorts}
 use Rattle.hy_term.specs.Meaning.{Grows}
 use Rattle.hy_term.specs.declared.node.TermNode.{TermNode}
-use Rattle.tree_terms.proofs.Parts.{grows_on, grows_not, fits_before, index_left, index_last, lt_or_eq}
+use Rattle.tree_terms.proofs.Growth.{fits_before, grows_not, grows_on}
+use Rattle.tree_terms.proofs.Parts.{index_last, index_left, lt_or_eq}
+use Rattle.tree_terms.proofs.Ruling.{bit_stays, bool_stays}
 use Rattle.tree_terms.specs.declared.linked.Linked.{Linked}
 use Rattle.tree_terms.specs.Linked.{parent, site_of, node_by}
 use Rattle.tree_terms.specs.Tables.{row}
 use Rattle.tree_terms.specs.Rules.{IsBool, bit, IsBit, IsFalse}
 use Rattle.tree_terms.specs.Reach.{site_term, reach_by, SitesFit, IsAlways, ReachTo}
-use Rattle.tree_terms.proofs.Ruling.{bool_stays, bit_stays}
 
 pub always_stays : (old new : List TermNode) (t : ℕ) → IsSome (sorts old) → IsSome (sorts new) → Grows old new → IsAlways old t → IsAlways new t
 always_stays old new t ok new_ok g h = record { bool = bool_stays old new t ok new_ok g h.bool; on = λ a fit. bit_stays a old new t ok g h.bool ∙ h.on a (fits_before a old new g fit) }

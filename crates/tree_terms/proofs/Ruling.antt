@@ -16,12 +16,12 @@ use Rattle.hy_term.specs.Meaning.{value, Grows}
 use Rattle.hy_term.specs.declared.node.TermNode.{TermNode}
 use Rattle.hy_term.specs.declared.node.TermNode.TheVariants.{If}
 use Rattle.tree_terms.specs.Copies.{IsPlaced}
-use Rattle.tree_terms.proofs.Parts.{sort_low, sort_stays, fits_before, value_stays, grows_on, grows_not, sorts_are}
+use Rattle.tree_terms.proofs.Growth.{fits_before, grows_not, grows_on, sort_stays, sort_within, sorts_are, value_stays}
 use Rattle.tree_terms.specs.declared.rules.Rule.{Rule}
 use Rattle.tree_terms.specs.Rules.{IsBool, bit, rule_holds, rules_hold, RuleFits, RulesFit, IsBit, IsFalse}
 
 pub bool_low : (into : List TermNode) (t : ℕ) → IsSome (sorts into) → IsBool into t → t < length into
-bool_low into t ok is = sort_low into t (ScalarSort BoolSort) ok is
+bool_low into t ok is = sort_within into t (ScalarSort BoolSort) is
 
 -- bools stay, and so does what they say
 pub bool_stays : (old new : List TermNode) (t : ℕ) → IsSome (sorts old) → IsSome (sorts new) → Grows old new → IsBool old t → IsBool new t

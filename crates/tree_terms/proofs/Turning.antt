@@ -13,14 +13,15 @@ use Rattle.hy_term.specs.declared.node.TermNode.{TermNode}
 use Rattle.hy_term.specs.declared.node.TermNode.TheVariants.{Lit, ZeroMap, Variable, Unary, Binary, If, Select, Store}
 use Rattle.hy_term.proofs.Numbering.{new_variables, above_is_free, number_is, same_number}
 use Rattle.tree_terms.specs.Copies.{renamed, is_made, children_below, IsPlaced, IsPart}
-use Rattle.tree_terms.proofs.Parts.{children_lower, copy_fits, sort_low, sort_stays, value_stays, grows_on, grows_not, place_low, part_stays, index_last, lt_or_eq, made_pushed, variable_pushed, variable_sort, variable_fits, sorts_are, added, below_more, made_fits, made_below}
+use Rattle.tree_terms.proofs.Growth.{below_more, grows_not, grows_on, sort_stays, sort_within, sorts_are, value_stays}
+use Rattle.tree_terms.proofs.Parts.{added, children_lower, copy_fits, index_last, lt_or_eq, made_below, made_fits, made_pushed, part_stays, place_low, variable_fits, variable_pushed, variable_sort}
+use Rattle.tree_terms.proofs.Rows.{row_longer}
 use Rattle.tree_terms.specs.declared.linked.Linked.{Linked}
 use Rattle.tree_terms.specs.declared.linked.Source.{Source}
 use Rattle.tree_terms.specs.declared.linked.Source.TheVariants.{Given, Up, Down, Fresh}
 use Rattle.tree_terms.specs.Linked.{nodes_of, parent, source, IsVariable, IsLinked}
 use Rattle.tree_terms.specs.Copying.{PutIs, IsFree, HaveSorts, Assigns, IsCopying, waits_at, waits_by, waits, MayGo, IsNext}
 use Rattle.tree_terms.specs.Tables.{row, IsPushed}
-use Rattle.tree_terms.proofs.Rows.{row_longer}
 
 put_stays : (old new : List (List ℕ)) (m n : ℕ) → IsPushed old new m n → (up put : ℕ) (s : Source) → PutIs old up put s → PutIs new up put s
 put_stays old new m n p up put (Given t) h = h
@@ -195,7 +196,7 @@ pub next_given : (q : Linked) (old : List TermNode) (places : List (List ℕ)) (
 next_given q old places m t number sort here is src =
     next_known q old places m t number sort here is (given_known (source q m number) t src) (subst (λ (s : Source). PutIs places (parent q m) t s) (sym src) refl)
     (λ base linked h. let s = linked.given m (length (row places m)) number t sort here is src in
-    sort_stays base old t h.base_sorted h.sorted h.grows (sort_low base t sort h.base_sorted s) ∙ s)
+    sort_stays base old t h.base_sorted h.sorted h.grows (sort_within base t sort s) ∙ s)
 
 pub next_up : (q : Linked) (old : List TermNode) (places : List (List ℕ)) (m i number : ℕ) (sort : Sort) → MayGo q places m → IsVariable q m (length (row places m)) number sort
     → source q m number ≡ Up i → IsNext q old old places m (slice_index (row places (parent q m)) i)

@@ -1,3 +1,4 @@
+pub mod Standing
 pub mod Copies
 pub mod Tables
 pub mod Linked

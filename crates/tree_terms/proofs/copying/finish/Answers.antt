@@ -1,5 +1,5 @@
 use Rattle.std.proofs.Common.{length}
-use Rattle.tree_terms.proofs.Going.{keeps_not, ready_done, ready_stays, left_less, lt_unless}
+use Rattle.tree_terms.proofs.Going.{keeps_not, left_less, lt_unless, ready_done, ready_stays}
 use Rattle.tree_terms.specs.Tables.{row}
 use Rattle.tree_terms.specs.Linked.{nodes_of}
 use Rattle.tree_terms.proofs.copying.finish.Goals as goal

@@ -3,7 +3,7 @@ use Rattle.std.specs.Prelude.{IsTrue, slice_index}
 use Rattle.hy_term.specs.declared.node.TermNode.{TermNode}
 use Rattle.hy_term.specs.TermSorts.{fits_behind}
 use Rattle.tree_terms.specs.Copies.{children_below, renamed, IsPlaced}
-use Rattle.tree_terms.proofs.Turning.{next_made, made_behind, made_children, is_no_variable}
+use Rattle.tree_terms.proofs.Turning.{is_no_variable, made_behind, made_children, next_made}
 use Rattle.tree_terms.proofs.copying.next_place.Goals as goal
 
 pub renamed-requires : goal.renamed-requires

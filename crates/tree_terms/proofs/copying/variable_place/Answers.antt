@@ -5,7 +5,7 @@ use Rattle.hy_term.specs.declared.node.TermNode.TheVariants.{Variable}
 use Rattle.hy_term.specs.TermSorts.{fits_behind}
 use Rattle.tree_terms.specs.Copying.{IsNext}
 use Rattle.tree_terms.specs.Tables.{row}
-use Rattle.tree_terms.proofs.Turning.{next_given, next_up, next_down, next_fresh, fresh_fits}
+use Rattle.tree_terms.proofs.Turning.{fresh_fits, next_down, next_fresh, next_given, next_up}
 use Rattle.tree_terms.proofs.copying.variable_place.Goals as goal
 
 pub add-requires : goal.add-requires

@@ -4,7 +4,7 @@ use Rattle.tree_terms.specs.Tables.{row}
 use Rattle.tree_terms.specs.Linked.{parent}
 use Rattle.tree_terms.specs.Rules.{IsBool, IsBit, bit}
 use Rattle.tree_terms.specs.Reach.{site_term}
-use Rattle.tree_terms.proofs.Reaching.{site_facts, next_term}
+use Rattle.tree_terms.proofs.Reaching.{next_term, site_facts}
 use Rattle.tree_terms.proofs.reach.reach_term.Goals as goal
 
 positive : (n : ℕ) → (n ≡ 0 → ⊥) → 0 < n

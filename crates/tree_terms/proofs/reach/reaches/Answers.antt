@@ -1,8 +1,8 @@
 use Rattle.std.proofs.Common.{ℕ, List, ◌+◌, length, arith, sym, subst}
 use Rattle.tree_terms.specs.Rules.{IsBit, bit}
 use Rattle.tree_terms.specs.Reach.{ReachTo, reach_by}
+use Rattle.tree_terms.proofs.Reaching.{always_stays, reach_next, sites_later}
 use Rattle.tree_terms.proofs.Ruling.{false_stays}
-use Rattle.tree_terms.proofs.Reaching.{always_stays, sites_later, reach_next}
 use Rattle.tree_terms.proofs.reach.reaches.Goals as goal
 
 pub reach_term-requires-clause-always : goal.reach_term-requires-clause-always

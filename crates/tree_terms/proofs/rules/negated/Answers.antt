@@ -1,4 +1,4 @@
-use Rattle.tree_terms.proofs.Ruling.{rule_off, bool_stays}
+use Rattle.tree_terms.proofs.Ruling.{bool_stays, rule_off}
 use Rattle.tree_terms.proofs.rules.negated.Goals as goal
 
 pub choice-requires-2-clause-cond : goal.choice-requires-2-clause-cond

@@ -1,5 +1,5 @@
-use Rattle.tree_terms.proofs.Ruling.{rule_on, bool_stays}
-use Rattle.tree_terms.proofs.Parts.{grows_on}
+use Rattle.tree_terms.proofs.Growth.{grows_on}
+use Rattle.tree_terms.proofs.Ruling.{bool_stays, rule_on}
 use Rattle.tree_terms.proofs.rules.plain.Goals as goal
 
 pub choice-requires-2-clause-cond : goal.choice-requires-2-clause-cond
