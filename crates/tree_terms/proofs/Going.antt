@@ -8,7 +8,7 @@ use Rattle.hy_term.specs.Variables.{below}
 use Rattle.hy_term.specs.declared.node.TermNode.{TermNode}
 use Rattle.hy_term.specs.declared.node.TermNode.TheVariants.{Lit, ZeroMap, Variable, Unary, Binary, If, Select, Store}
 use Rattle.tree_terms.specs.Copies.{IsPart}
-use Rattle.tree_terms.proofs.Growth.{grows_not, sort_within, sorts_are}
+use Rattle.tree_terms.proofs.Growth.{grows_not, sort_within}
 use Rattle.tree_terms.proofs.Parts.{lt_or_eq}
 use Rattle.tree_terms.proofs.Rows.{row_longer}
 use Rattle.tree_terms.specs.declared.linked.Linked.{Linked}

@@ -1,6 +1,6 @@
 -- The sorts and values of terms that grow, and of nodes over others.
-use Rattle.std.proofs.Common.{◌≡◌, ℕ, zero, suc, ◌+◌, ◌<◌, ◌≤◌, true≢false, Bool, true, false, List, [], ◌∷◌, ◌++◌, map, length, arith, sym, ◌∙◌, ap, refl, subst, length-append, append_assoc, append-nil}
-use Rattle.std.specs.Prelude.{Option, None, Some, if◌then◌else◌, slice_get, slice_index, slice_index_or, IsSome, IsTrue, is_some, nat_lt, ◌&&◌}
+use Rattle.std.proofs.Common.{◌≡◌, ℕ, zero, suc, ◌<◌, ◌≤◌, true≢false, Bool, true, List, [], ◌∷◌, ◌++◌, map, length, arith, sym, ◌∙◌, ap, refl, subst, length-append, append_assoc, append-nil}
+use Rattle.std.specs.Prelude.{Option, None, Some, if◌then◌else◌, slice_get, slice_index, IsSome, IsTrue, is_some}
 use Rattle.std.proofs.lemmas.Bool.{and_parts, and_from, lt-ltb, ltb-true}
 use Rattle.std.specs.Option.{option_and_then}
 use Rattle.std.proofs.lemmas.Option.{slice_get_within}
@@ -8,7 +8,7 @@ use Rattle.hy_val.specs.Operators.{sort_of_unary, sort_of_binary}
 use Rattle.hy_val.specs.NodeSorts.{same_sort, as_sort, as_scalar, unary_sort, binary_sort, branch_sort, if_sort}
 use Rattle.hy_val.specs.Values.{at}
 use Rattle.hy_val.specs.declared.sort.Scalar.{Scalar}
-use Rattle.hy_val.specs.declared.sort.ScalarKind.TheVariants.{Bool as BoolSort, Bv as BvSort}
+use Rattle.hy_val.specs.declared.sort.ScalarKind.TheVariants.{Bool as BoolSort}
 use Rattle.hy_val.specs.declared.sort.Sort.{Sort}
 use Rattle.hy_val.specs.declared.sort.SortKind.TheVariants.{Scalar as ScalarSort, Map as MapSort}
 use Rattle.hy_val.specs.declared.operator.UnOp.{UnOp}
@@ -16,7 +16,8 @@ use Rattle.hy_val.specs.declared.operator.BvOp.{BvOp}
 use Rattle.hy_val.specs.declared.value.Value.{Value}
 use Rattle.hy_val.proofs.ResultSorts.{same_scalar_self}
 use Rattle.hy_val.proofs.Lists.{slice_get-left, slice_get-seam}
-use Rattle.hy_term.specs.TermSorts.{sort_of_node, sorts_onto, sorts, sort_at, sort_behind, variable_agrees, fits_behind}
+use Rattle.hy_term.specs.TermSorts.{sort_of_node, sorts_onto, sorts, sort_at, sort_behind, variable_agrees, fits_behind, is_bool, is_formula, agree_onto}
+use Rattle.hy_term.specs.Formula.{Formula}
 use Rattle.hy_term.specs.Meaning.{values, value, node_fits, fits, Grows}
 use Rattle.hy_term.specs.Variables.{node_below, below}
 use Rattle.hy_term.specs.declared.node.TermNode.{TermNode}
@@ -154,7 +155,8 @@ later_is out new h same = subst (λ (ns : List TermNode). Later out ns) (sym sam
 pub later_then : (x y z : List TermNode) → Later x y → Later y z → Later x z
 later_then x y z h k = record {
   nodes = (h.nodes.0 ++ k.nodes.0, k.nodes.1 ∙ ap (λ (ns : List TermNode). ns ++ k.nodes.0) h.nodes.1 ∙ append_assoc x h.nodes.0 k.nodes.0);
-  sound = k.sound }
+  sound = k.sound;
+}
 
 pub later_push : (out new : List TermNode) (node : TermNode) (s : Sort) → sort_behind out node ≡ Some s → new ≡ out ++ node ∷ [] → Later out new
 later_push out new node s h is =
@@ -279,3 +281,10 @@ below_more m n (x ∷ xs) l h =
     let b = and_parts (node_below m x) (below m xs) h in
     and_from (node_below n x) (below n xs) (node_below_more m n x l b.0) (below_more m n xs l b.1)
 
+-- terms whose root is a bool have their sorts
+pub formula_sorts : (f : Formula) → IsTrue (is_formula f) → IsSome (sorts f.nodes)
+formula_sorts f h = by_sorts (sorts f.nodes) (and_parts (is_bool (sort_at f.nodes f.root)) (agree_onto [] f.nodes) h).0
+  where
+    by_sorts : (o : Option (List Sort)) → is_bool (option_and_then (λ (ss : List Sort). slice_get ss f.root) o) ≡ true → IsSome o
+    by_sorts None k = cc
+    by_sorts (Some ss) k = refl

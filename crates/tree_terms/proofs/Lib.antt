@@ -1,4 +1,6 @@
 mod Growth
+mod Found
+mod Truths
 mod Parts
 mod Rows
 mod Turning

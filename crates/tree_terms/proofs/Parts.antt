@@ -1,5 +1,5 @@
 -- Nodes that are copied one by one.
-use Rattle.std.proofs.Common.{◌≡◌, ℕ, zero, suc, ◌+◌, ◌<◌, ◌≤◌, Bool, true, false, ◌&&◌, List, [], ◌∷◌, ◌++◌, length, take, refl, sym, ap, ◌∙◌, subst, append_assoc, append-nil, arith, length-append, length-take, true≢false, inl, inr, ◌⊎◌, ⊎_elim}
+use Rattle.std.proofs.Common.{◌≡◌, ℕ, zero, suc, ◌+◌, ◌<◌, Bool, true, false, ◌&&◌, List, [], ◌∷◌, ◌++◌, length, take, refl, sym, ap, ◌∙◌, subst, arith, length-append, length-take, true≢false, inl, inr, ◌⊎◌, ⊎_elim}
 use Rattle.std.specs.Prelude.{if◌then◌else◌, Option, None, Some, is_some, slice_get, slice_index, nat_lt, IsSome, IsTrue}
 use Rattle.std.specs.Option.{option_and_then}
 use Rattle.std.proofs.lemmas.Bool.{and_parts, and_from, lt-ltb, ltb-true, ltb-false}
@@ -12,16 +12,17 @@ use Rattle.hy_val.specs.declared.sort.SortKind.TheVariants.{Scalar as ScalarSort
 use Rattle.hy_val.specs.declared.operator.UnOp.{UnOp}
 use Rattle.hy_val.specs.declared.operator.BvOp.{BvOp}
 use Rattle.hy_val.specs.declared.value.Value.{Value}
-use Rattle.hy_term.specs.TermSorts.{sorts, sorts_onto, sort_at, sort_behind, sort_of_node, fits_behind, variable_agrees}
+use Rattle.hy_term.specs.TermSorts.{sorts, sort_at, sort_behind, sort_of_node, fits_behind, variable_agrees}
 use Rattle.hy_term.specs.Meaning.{node_value, values, value, fits, node_fits, Grows}
-use Rattle.hy_term.specs.Variables.{below, node_below}
+use Rattle.hy_term.specs.Variables.{node_below}
 use Rattle.hy_term.specs.declared.node.TermNode.{TermNode}
 use Rattle.hy_term.specs.declared.node.TermNode.TheVariants.{Lit, ZeroMap, Variable, Unary, Binary, If, Select, Store}
-use Rattle.hy_term.proofs.Sorting.{there, count_sorts, sorts_push, sort_there, sorts-append}
+use Rattle.hy_term.proofs.Sorting.{there, count_sorts, sort_there}
 use Rattle.hy_term.proofs.Placing.{node_has_sort}
-use Rattle.hy_term.proofs.Growing.{node_values, value-more}
+use Rattle.hy_term.proofs.Growing.{node_values}
+use Rattle.tree_terms.specs.Folding.{IsLike}
 use Rattle.tree_terms.specs.Copies.{renamed, is_made, children_below, IsPlaced, Puts, IsPart}
-use Rattle.tree_terms.proofs.Growth.{below_push, fits_before, fits_push, fits_some, later_push, of_sorts, sort_added, sort_here, sort_stays, sort_within, sorts_are, value_stays}
+use Rattle.tree_terms.proofs.Growth.{below_push, fits_before, fits_push, fits_some, grows_not, later_push, of_sorts, sort_added, sort_here, sort_stays, sort_within, sorts_are, value_stays}
 
 unary_there : (op : UnOp) (o : Option Sort) → IsSome (unary_sort op (as_scalar o)) → IsSome o
 unary_there op None h = cc
@@ -363,3 +364,69 @@ added into new node t ok fit is last =
       fits = λ v h k. fits_push v into node h k;
       low = λ k h l. below_push k into node h l;
     }
+
+-- ---- another node in the place of a node
+
+-- the value of a node whose children have the same values
+pub value_from : (a : ℕ → Value) (us vs : List Value) (k : ℕ) (node : TermNode) → children_below k node ≡ true → ((j : ℕ) → j < k → at us j ≡ at vs j) → node_value a us node ≡ node_value a vs node
+value_from a us vs k (Lit v) h same = refl
+value_from a us vs k (ZeroMap i e) h same = refl
+value_from a us vs k (Variable number sort) h same = refl
+value_from a us vs k (Unary op child) h same = renamed_value a a us vs (λ (j : ℕ). j) k (Unary op child) h refl same
+value_from a us vs k (Binary op left right) h same = renamed_value a a us vs (λ (j : ℕ). j) k (Binary op left right) h refl same
+value_from a us vs k (If test one other) h same = renamed_value a a us vs (λ (j : ℕ). j) k (If test one other) h refl same
+value_from a us vs k (Select i j) h same = renamed_value a a us vs (λ (j : ℕ). j) k (Select i j) h refl same
+value_from a us vs k (Store i j v) h same = renamed_value a a us vs (λ (j : ℕ). j) k (Store i j v) h refl same
+
+-- the sort of a node whose children have the same sorts
+sort_from : (into known : List Sort) (k : ℕ) (node : TermNode) → children_below k node ≡ true → ((j : ℕ) → j < k → slice_get into j ≡ slice_get known j) → sort_of_node into node ≡ sort_of_node known node
+sort_from into known k (Lit v) h same = refl
+sort_from into known k (ZeroMap i e) h same = refl
+sort_from into known k (Variable number sort) h same = refl
+sort_from into known k (Unary op child) h same = renamed_sort into known (λ (j : ℕ). j) k (Unary op child) h refl same
+sort_from into known k (Binary op left right) h same = renamed_sort into known (λ (j : ℕ). j) k (Binary op left right) h refl same
+sort_from into known k (If test one other) h same = renamed_sort into known (λ (j : ℕ). j) k (If test one other) h refl same
+sort_from into known k (Select i j) h same = renamed_sort into known (λ (j : ℕ). j) k (Select i j) h refl same
+sort_from into known k (Store i j v) h same = renamed_sort into known (λ (j : ℕ). j) k (Store i j v) h refl same
+
+-- the children of a node that may stand behind others are among these
+pub behind_lower : (nodes : List TermNode) (node : TermNode) → IsSome (sorts nodes) → IsTrue (fits_behind nodes node) → children_below (length nodes) node ≡ true
+behind_lower nodes node ok fit =
+    let s = fits_some nodes node fit in
+    let n = sorts_are (sorts nodes) ok in
+    let is : sort_of_node n.0 node ≡ Some s.0 = sym (ap (λ (o : Option (List Sort)). option_and_then (λ ss. sort_of_node ss node) o) n.1) ∙ s.1 in
+    let count : length n.0 ≡ length nodes = omega (arith, count_sorts nodes n.0 n.1) in
+    subst (λ (k : ℕ). children_below k node ≡ true) count (lower n.0 node (subst (λ (o : Option Sort). IsSome o) (sym is) refl))
+
+value_grown : (a : ℕ → Value) (old new : List TermNode) (node : TermNode) → IsSome (sorts old) → Grows old new → IsTrue (fits_behind old node) → node_value a (values a new) node ≡ node_value a (values a old) node
+value_grown a old new node ok g fit = value_from a (values a new) (values a old) (length old) node (behind_lower old node ok fit) (λ j l. value_stays a old new j g l)
+
+-- a node that is there already
+pub found_placed : (nodes : List TermNode) (node : TermNode) (k : ℕ) → IsSome (sorts nodes) → slice_get nodes k ≡ Some node → IsPlaced nodes nodes node k
+found_placed nodes node k ok is = record {
+  grows = grows_not nodes;
+  sorted = ok;
+  sort = sort;
+  means = λ a f. node_values a nodes k node ok is;
+  fits = λ a f h. f;
+  low = λ j h l. h;
+}
+  where
+    sort : sort_at nodes k ≡ sort_behind nodes node
+    sort =
+        let n = sorts_are (sorts nodes) ok in
+        of_sorts nodes n.0 k n.1
+        ∙ (node_has_sort nodes n.0 k node n.1 is
+        ∙ (sym (sort_from n.0 (take k n.0) k node (children_lower nodes k node ok is) (λ j l. sym (take_at n.0 k j l)))
+        ∙ sym (ap (λ (o : Option (List Sort)). option_and_then (λ ss. sort_of_node ss node) o) n.1)))
+
+-- what is placed for a node with the same sort and value is placed for the node
+pub like_placed : (old new : List TermNode) (node other : TermNode) (t : ℕ) → IsSome (sorts old) → IsTrue (fits_behind old node) → IsLike old node other → IsPlaced old new other t → IsPlaced old new node t
+like_placed old new node other t ok fit like p = record {
+  grows = p.grows;
+  sorted = p.sorted;
+  sort = p.sort ∙ like.sort;
+  means = λ a f. p.means a f ∙ (value_grown a old new other ok p.grows like.behind ∙ (like.value a (fits_before a old new p.grows f) ∙ sym (value_grown a old new node ok p.grows fit)));
+  fits = λ a f h. p.fits a f (like.fit a h);
+  low = λ k h l. p.low k h (like.low k l);
+}

@@ -1,4 +1,6 @@
 pub mod Standing
+pub mod Shared
+pub mod Folding
 pub mod Copies
 pub mod Tables
 pub mod Linked

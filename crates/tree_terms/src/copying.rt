@@ -10,8 +10,9 @@ ghost use Rattle.tree_terms.specs.Tables.{IsPushed, row};
 
 use crate::linked::{Linked, Source, count, node_at, parent, source_of};
 use crate::placing::{placed, renamed};
+use crate::shared::SharedTerms;
 use crate::table::Table;
-use hy_term::{TermNode, Terms};
+use hy_term::TermNode;
 use hy_val::Sort;
 use std::alloc::{AllocError, Global};
 
@@ -55,7 +56,7 @@ fn next_node(q: &Linked, places: &Table, node: usize) -> usize
 // The term in the place of a variable.
 fn variable_place(
     q: &Linked,
-    terms: &mut Terms,
+    terms: &mut SharedTerms,
     places: &Table,
     node: usize,
     number: usize,
@@ -73,7 +74,7 @@ fn variable_place(
         Source::Down { node: callee, at } => Ok(places.at(callee, at)),
         Source::Fresh => {
             let number = terms.nodes().len();
-            let place = terms.add(TermNode::Variable { number, sort })?;
+            let place = terms.push(TermNode::Variable { number, sort })?;
             Ok(place)
         }
     }
@@ -82,7 +83,7 @@ fn variable_place(
 // The copy of the next node.
 fn next_place(
     q: &Linked,
-    terms: &mut Terms,
+    terms: &mut SharedTerms,
     places: &Table,
     node: usize,
     next: &TermNode,
@@ -101,7 +102,12 @@ fn next_place(
 }
 
 // A node's copy goes on by one.
-fn turn(q: &Linked, terms: &mut Terms, places: &mut Table, node: usize) -> Result<(), AllocError>
+fn turn(
+    q: &Linked,
+    terms: &mut SharedTerms,
+    places: &mut Table,
+    node: usize,
+) -> Result<(), AllocError>
     requires state { AreCopying q.now terms.old.nodes places.old }
     requires go { MayGo q.now places.old node }
     requires free { waits q.now places.old node ≡ None }
@@ -141,7 +147,12 @@ fn is_whole(q: &Linked, places: &Table, node: usize) -> bool
 }
 
 // A node's copy is made whole, where those of the nodes before it are.
-fn finish(q: &Linked, terms: &mut Terms, places: &mut Table, node: usize) -> Result<(), AllocError>
+fn finish(
+    q: &Linked,
+    terms: &mut SharedTerms,
+    places: &mut Table,
+    node: usize,
+) -> Result<(), AllocError>
     requires state { AreCopying q.now terms.old.nodes places.old }
     requires within { node < length q.now.tree }
     requires done { AreDone q.now places.old node }
@@ -165,7 +176,7 @@ fn finish(q: &Linked, terms: &mut Terms, places: &mut Table, node: usize) -> Res
 /// What stands in a variable's place has to have its sort, a callee has to stand behind its caller, what it takes from its
 /// caller before what the caller takes from it, and the terms' variables have numbers below the count of the terms.
 /// `AllocError` comes where memory runs out; the terms have then grown.
-pub fn copied(alloc: Global, q: &Linked, terms: &mut Terms) -> Result<Table, AllocError>
+pub fn copied(alloc: Global, q: &Linked, terms: &mut SharedTerms) -> Result<Table, AllocError>
     requires linked { IsLinked q.now terms.old.nodes }
     requires sorted { IsSome (sorts terms.old.nodes) }
     requires low { IsTrue (below (length terms.old.nodes) terms.old.nodes) }

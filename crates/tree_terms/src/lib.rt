@@ -3,10 +3,12 @@
 #![tactic(auto)]
 
 mod copying;
+mod folding;
 mod linked;
 mod placing;
 mod reach;
 mod rules;
+mod shared;
 mod table;
 
 pub use copying::copied;
@@ -17,4 +19,5 @@ pub use linked::{
 pub use placing::{placed, renamed};
 pub use reach::reaches;
 pub use rules::{Rule, choice, ruled};
+pub use shared::SharedTerms;
 pub use table::Table;

@@ -4,7 +4,9 @@ ghost use Rattle.std.specs.Prelude.{◌≡◌, ◌<◌, length, slice_index, IfO
 ghost use Rattle.hy_term.specs.TermSorts.{fits_behind, sorts};
 ghost use Rattle.tree_terms.specs.Copies.{IsPlaced, children_below, renamed};
 
-use hy_term::{TermNode, Terms};
+use crate::folding::{Folded, fold_node};
+use crate::shared::SharedTerms;
+use hy_term::TermNode;
 use std::alloc::AllocError;
 
 /// The node with the numbers at `places` in place of those of its children, which have to be below the length of `places`.
@@ -46,11 +48,16 @@ pub fn renamed(node: &TermNode, places: &[usize]) -> TermNode
 /// The number of a term with the sort and, under every assignment that fits, the value of a node that may stand behind the
 /// others: its children are among them and their sorts fit. The terms grow by what is needed; no variable is new but the
 /// node's own. `AllocError` comes where memory runs out.
-pub fn placed(terms: &mut Terms, node: TermNode) -> Result<usize, AllocError>
+pub fn placed(terms: &mut SharedTerms, node: TermNode) -> Result<usize, AllocError>
     requires fits { IsTrue (fits_behind terms.old.nodes node) }
     requires sorted { IsSome (sorts terms.old.nodes) }
     ensures { IfOk result (IsPlaced terms.old.nodes terms.new.nodes node) }
 {
-    let place = terms.add(node)?;
-    Ok(place)
+    match fold_node(terms.terms(), node) {
+        Folded::Known(number) => Ok(number),
+        Folded::Node(other) => {
+            let number = terms.add(other)?;
+            Ok(number)
+        }
+    }
 }

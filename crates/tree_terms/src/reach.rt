@@ -6,8 +6,8 @@ ghost use Rattle.tree_terms.specs.Reach.{IsAlways, ReachTo, SitesFit, reach_by};
 
 use crate::linked::{Linked, parent, site_node};
 use crate::rules::choice;
+use crate::shared::SharedTerms;
 use crate::table::Table;
-use hy_term::Terms;
 use sqlite_items::Items;
 use std::alloc::{AllocError, Global};
 
@@ -23,7 +23,7 @@ fn number_at(list: &[usize], index: usize) -> usize
 fn reach_term(
     q: &Linked,
     places: &Table,
-    terms: &mut Terms,
+    terms: &mut SharedTerms,
     always: usize,
     never: usize,
     reach: &[usize],
@@ -54,7 +54,7 @@ pub fn reaches(
     alloc: Global,
     q: &Linked,
     places: &Table,
-    terms: &mut Terms,
+    terms: &mut SharedTerms,
     always: usize,
     never: usize,
 ) -> Result<Items<usize>, AllocError>

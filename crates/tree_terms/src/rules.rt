@@ -4,7 +4,8 @@ ghost use Rattle.hy_term.specs.TermSorts.{sorts};
 ghost use Rattle.tree_terms.specs.Rules.{IsBit, IsBool, IsFalse, RuleFits, RulesFit, bit, rule_holds, rules_hold};
 
 use crate::placing::placed;
-use hy_term::{TermNode, Terms};
+use crate::shared::SharedTerms;
+use hy_term::TermNode;
 use std::alloc::AllocError;
 
 /// A rule on bools, by their numbers: where `when` is true, `one` or `other` is; or, where the rule is negated, `one` isn't.
@@ -22,7 +23,12 @@ pub struct Rule {
 
 /// A bool that is `yes` where `cond` is true, else `no`, by the numbers of three bools. `AllocError` comes where memory runs
 /// out.
-pub fn choice(terms: &mut Terms, cond: usize, yes: usize, no: usize) -> Result<usize, AllocError>
+pub fn choice(
+    terms: &mut SharedTerms,
+    cond: usize,
+    yes: usize,
+    no: usize,
+) -> Result<usize, AllocError>
     requires sorted { IsSome (sorts terms.old.nodes) }
     requires cond { IsBool terms.old.nodes cond }
     requires yes { IsBool terms.old.nodes yes }
@@ -34,7 +40,12 @@ pub fn choice(terms: &mut Terms, cond: usize, yes: usize, no: usize) -> Result<u
 }
 
 // True where `all` is and a rule that is negated holds.
-fn negated(terms: &mut Terms, never: usize, all: usize, rule: Rule) -> Result<usize, AllocError>
+fn negated(
+    terms: &mut SharedTerms,
+    never: usize,
+    all: usize,
+    rule: Rule,
+) -> Result<usize, AllocError>
     requires sorted { IsSome (sorts terms.old.nodes) }
     requires never { IsFalse terms.old.nodes never }
     requires all { IsBool terms.old.nodes all }
@@ -48,7 +59,7 @@ fn negated(terms: &mut Terms, never: usize, all: usize, rule: Rule) -> Result<us
 }
 
 // True where `all` is and another rule holds.
-fn plain(terms: &mut Terms, never: usize, all: usize, rule: Rule) -> Result<usize, AllocError>
+fn plain(terms: &mut SharedTerms, never: usize, all: usize, rule: Rule) -> Result<usize, AllocError>
     requires sorted { IsSome (sorts terms.old.nodes) }
     requires never { IsFalse terms.old.nodes never }
     requires all { IsBool terms.old.nodes all }
@@ -63,7 +74,12 @@ fn plain(terms: &mut Terms, never: usize, all: usize, rule: Rule) -> Result<usiz
 }
 
 // True where `all` is and the rule holds.
-fn with_rule(terms: &mut Terms, never: usize, all: usize, rule: Rule) -> Result<usize, AllocError>
+fn with_rule(
+    terms: &mut SharedTerms,
+    never: usize,
+    all: usize,
+    rule: Rule,
+) -> Result<usize, AllocError>
     requires sorted { IsSome (sorts terms.old.nodes) }
     requires never { IsFalse terms.old.nodes never }
     requires all { IsBool terms.old.nodes all }
@@ -80,7 +96,7 @@ fn with_rule(terms: &mut Terms, never: usize, all: usize, rule: Rule) -> Result<
 /// A bool that is true where the bool `start` is and all rules hold. `never` is a bool that is false under every assignment.
 /// `AllocError` comes where memory runs out.
 pub fn ruled(
-    terms: &mut Terms,
+    terms: &mut SharedTerms,
     never: usize,
     start: usize,
     rules: &[Rule],

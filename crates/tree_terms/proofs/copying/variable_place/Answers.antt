@@ -8,8 +8,8 @@ use Rattle.tree_terms.specs.Tables.{row}
 use Rattle.tree_terms.proofs.Turning.{fresh_fits, next_down, next_fresh, next_given, next_up}
 use Rattle.tree_terms.proofs.copying.variable_place.Goals as goal
 
-pub add-requires : goal.add-requires
-add-requires c =
+pub push-requires : goal.push-requires
+push-requires c =
     subst (λ (ns : List TermNode). IsTrue (fits_behind c.args.terms.now.nodes (Variable (length ns) c.args.sort))) (sym c.nodes-number.ensures.value)
     (fresh_fits c.args.q.now c.requires.state.0 c.args.terms.now.nodes c.args.places.now c.args.node c.args.number c.args.sort c.requires.state.1 c.requires.state.2 c.requires.go.tree c.requires.next).0
 
@@ -30,7 +30,7 @@ returns-in-Down c =
 
 pub returns-in_ok-place-in-Fresh : goal.returns-in_ok-place-in-Fresh
 returns-in_ok-place-in-Fresh c =
-    next_fresh c.args.q.now c.args.terms.now.nodes c.add.new.self.nodes c.args.places.now c.args.node c.args.number c.in_ok-place-in-Fresh.place c.args.sort c.requires.go.tree c.requires.next
+    next_fresh c.args.q.now c.args.terms.now.nodes c.push.new.self.nodes c.args.places.now c.args.node c.args.number c.in_ok-place-in-Fresh.place c.args.sort c.requires.go.tree c.requires.next
     (sym c.source_of.ensures ∙ c.in-Fresh.is)
-    (c.in_ok-place-in-Fresh.ensures.added ∙ ap (λ (ns : List TermNode). c.args.terms.now.nodes ++ Variable (length ns) c.args.sort ∷ []) c.nodes-number.ensures.value)
+    (c.in_ok-place-in-Fresh.ensures.pushed ∙ ap (λ (ns : List TermNode). c.args.terms.now.nodes ++ Variable (length ns) c.args.sort ∷ []) c.nodes-number.ensures.value)
     c.in_ok-place-in-Fresh.ensures.number
