@@ -7,3 +7,4 @@ mod Turning
 mod Going
 mod Ruling
 mod Reaching
+mod Linking

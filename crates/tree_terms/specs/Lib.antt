@@ -7,3 +7,5 @@ pub mod Linked
 pub mod Copying
 pub mod Rules
 pub mod Reach
+pub mod Checks
+pub mod Laws

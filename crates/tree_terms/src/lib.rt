@@ -4,14 +4,18 @@
 
 mod copying;
 mod folding;
+mod laws;
 mod linked;
 mod placing;
 mod reach;
 mod rules;
 mod shared;
 mod table;
+#[cfg(test)]
+mod tests;
 
 pub use copying::copied;
+pub use laws::{nodes_are_added, terms_stay};
 pub use linked::{
     EdgeTerms, FailTerms, Linked, Place, Role, SiteTerms, Source, Template, TrackTerms, count, kid,
     node_at, parent, site_node, source_of, template_of,
