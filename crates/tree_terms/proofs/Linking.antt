@@ -1,11 +1,10 @@
 -- What is checked of a tree is that it is linked.
-use Rattle.std.proofs.Common.{◌≡◌, ℕ, zero, suc, ◌+◌, ◌<◌, Bool, true, false, ◌&&◌, List, length, refl, sym, ap, ◌∙◌, subst, arith, ◌⊎◌, inl, inr, ⊎_elim}
-use Rattle.std.specs.Prelude.{Option, None, Some, is_some, slice_get, nat_eq, nat_lt, IsSome, IsTrue}
+use Rattle.std.proofs.Common.{◌≡◌, ℕ, zero, suc, ◌<◌, Bool, true, ◌&&◌, List, length, refl, sym, ap, ◌∙◌, subst, arith, ⊎_elim}
+use Rattle.std.specs.Prelude.{Option, None, Some, is_some, slice_get, nat_eq, nat_lt, IsSome}
 use Rattle.std.proofs.lemmas.Bool.{and_parts, ltb-true}
 use Rattle.std.proofs.lemmas.Bool.Decides.{nat_tests}
 use Rattle.std.proofs.lemmas.Option.{slice_get_within}
 use Rattle.hy_val.specs.declared.sort.Sort.{Sort}
-use Rattle.hy_val.specs.NodeSorts.{same_sort}
 use Rattle.hy_term.specs.TermSorts.{sorts, sort_at}
 use Rattle.hy_term.specs.declared.node.TermNode.{TermNode}
 use Rattle.hy_term.specs.declared.node.TermNode.TheVariants.{Variable}
