@@ -1,0 +1,10 @@
+mod Growth
+mod Found
+mod Truths
+mod Parts
+mod Rows
+mod Turning
+mod Going
+mod Ruling
+mod Reaching
+mod Linking

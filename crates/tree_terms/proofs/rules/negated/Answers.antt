@@ -1,0 +1,13 @@
+use Rattle.tree_terms.proofs.Ruling.{bool_stays, rule_off}
+use Rattle.tree_terms.proofs.rules.negated.Goals as goal
+
+pub choice-requires-2-clause-cond : goal.choice-requires-2-clause-cond
+choice-requires-2-clause-cond c = bool_stays c.args.terms.now.nodes c.choice.new.terms.nodes c.args.rule.when c.requires.sorted c.in_ok-kept.ensures.sorted c.in_ok-kept.ensures.grows c.requires.rule.when
+
+pub choice-requires-2-clause-no : goal.choice-requires-2-clause-no
+choice-requires-2-clause-no c = bool_stays c.args.terms.now.nodes c.choice.new.terms.nodes c.args.all c.requires.sorted c.in_ok-kept.ensures.sorted c.in_ok-kept.ensures.grows c.requires.all
+
+pub returns : goal.returns
+returns c =
+    rule_off c.args.terms.now.nodes c.choice.new.terms.nodes c.choice-2.new.terms.nodes c.args.never c.args.all c.in_ok-kept.kept c.in_ok-place.place c.args.rule
+    c.requires.sorted c.requires.never c.requires.all c.requires.rule c.requires.negated c.in_ok-kept.ensures c.in_ok-place.ensures

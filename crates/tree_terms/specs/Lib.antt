@@ -1,0 +1,11 @@
+pub mod Standing
+pub mod Shared
+pub mod Folding
+pub mod Copies
+pub mod Tables
+pub mod Linked
+pub mod Copying
+pub mod Rules
+pub mod Reach
+pub mod Checks
+pub mod Laws
