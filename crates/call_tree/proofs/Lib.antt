@@ -12,7 +12,6 @@ pub mod Freeing
 pub mod Ranks
 pub mod Finite
 pub mod Whole
-pub mod Rows
 pub mod Same
 pub mod Seeking
 pub mod Capping
