@@ -10,7 +10,7 @@ use Rattle.call_tree.specs.declared.piece.Decision2.{Decision2}
 use Rattle.call_tree.specs.declared.piece.Decision2.TheVariants.{Must, Avoid}
 use Rattle.call_tree.specs.Pieces.{reaches, is_kept, meets}
 use Rattle.call_tree.specs.Splits.{Splits, leaf, split, pieces_of, CoverLaw, IsClosed, AllClosed, SafeLaw}
-use Rattle.call_tree.proofs.Whole.{over}
+use Rattle.call_tree.specs.Laws.{OverLaw}
 
 and_assoc : (a b c : Bool) → ((a && b) && c) ≡ (a && (b && c))
 and_assoc true b c = refl
@@ -61,12 +61,12 @@ met_end flat entry bound reached (split site must avoid) piece h closed =
     parts = closed_parts (pieces_of must (piece ++ (site, Must) ∷ [])) (pieces_of avoid (piece ++ (site, Avoid) ∷ [])) closed
 
 -- a closed piece is met by no failing run within the caps
-pub closed_leaf : (flat : FlatProgram) (entry bound : ℕ) (piece : List (List ℕ × Decision2)) (run : Run) (proc number : ℕ) → IsFlat flat → IsClosed flat entry bound piece → IsFull flat entry bound run → FailsIn flat entry run proc number →
+pub closed_leaf : OverLaw → (flat : FlatProgram) (entry bound : ℕ) (piece : List (List ℕ × Decision2)) (run : Run) (proc number : ℕ) → IsFlat flat → IsClosed flat entry bound piece → IsFull flat entry bound run → FailsIn flat entry run proc number →
     meets (reaches flat run) piece ≡ true → ⊥
-closed_leaf flat entry bound piece run proc number fits c full fails meet =
+closed_leaf over flat entry bound piece run proc number fits c full fails meet =
     let r = over flat entry bound c.tree piece run proc number fits c.is c.names full fails meet in c.none r.0 r.1
 
-pub safe : SafeLaw
-safe flat entry bound splits fits closed run proc number full fails =
+pub safe : OverLaw → SafeLaw
+safe over flat entry bound splits fits closed run proc number full fails =
     let m = met_end flat entry bound (reaches flat run) splits [] refl closed in
-    closed_leaf flat entry bound m.0 run proc number fits m.2 full fails m.1
+    closed_leaf over flat entry bound m.0 run proc number fits m.2 full fails m.1

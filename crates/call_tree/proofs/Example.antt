@@ -9,7 +9,7 @@ use Rattle.flat_prog.specs.Program.{FlatProgram, scope_of, variables_of}
 use Rattle.flat_prog.specs.Shape.{IsFlat, IsFlatProc, AreAcyclic, HaveLoopOuts, sorts_fit, block_fits, place_of, is_loop_kind}
 use Rattle.flat_prog.specs.declared.block.FlatNext.{FlatNext}
 use Rattle.call_tree.specs.declared.piece.Decision2.TheVariants.{Must}
-use Rattle.call_tree.proofs.Whole.{over}
+use Rattle.call_tree.specs.Laws.{OverLaw}
 use Rattle.flat_prog.specs.declared.block.FlatCmd.TheVariants.{Assert, Call}
 use Rattle.flat_prog.specs.declared.block.FlatNext.TheVariants.{Goto, Return}
 use Rattle.flat_prog.specs.declared.block.FlatBlock.{FlatBlock}
@@ -168,8 +168,8 @@ flat_fits = record {
   loops = record { order = []; onward = tt; every = λ p q h loop. absurd (no_loop p q h loop) };
 }
 
-pub root_alone : (cut : Run) × IsOver flat 0 1 ([] ∷ []) [] cut
-root_alone = let r = over flat 0 1 ([] ∷ []) [] full_tree 1 7 flat_fits (record { rest = []; root_first = refl; root = refl; placed = refl }) refl full full_fails refl in (r.0, r.1)
+pub root_alone : OverLaw → (cut : Run) × IsOver flat 0 1 ([] ∷ []) [] cut
+root_alone over = let r = over flat 0 1 ([] ∷ []) [] full_tree 1 7 flat_fits (record { rest = []; root_first = refl; root = refl; placed = refl }) refl full full_fails refl in (r.0, r.1)
 
-pub both_nodes : (cut : Run) × IsOver flat 0 1 ([] ∷ (0 ∷ []) ∷ []) ((0 ∷ [], Must) ∷ []) cut
-both_nodes = let r = over flat 0 1 ([] ∷ (0 ∷ []) ∷ []) ((0 ∷ [], Must) ∷ []) full_tree 1 7 flat_fits (record { rest = (0 ∷ []) ∷ []; root_first = refl; root = refl; placed = refl }) refl full full_fails refl in (r.0, r.1)
+pub both_nodes : OverLaw → (cut : Run) × IsOver flat 0 1 ([] ∷ (0 ∷ []) ∷ []) ((0 ∷ [], Must) ∷ []) cut
+both_nodes over = let r = over flat 0 1 ([] ∷ (0 ∷ []) ∷ []) ((0 ∷ [], Must) ∷ []) full_tree 1 7 flat_fits (record { rest = (0 ∷ []) ∷ []; root_first = refl; root = refl; placed = refl }) refl full full_fails refl in (r.0, r.1)

@@ -21,9 +21,20 @@ use Rattle.flat_prog.specs.Local.{Request, can_come_back}
 use Rattle.hy_val.specs.Stores.{have_sorts}
 use Rattle.flat_prog.specs.Changes.{Writes, MayChange, own, through, set_all, FreeEnds, MayBe, Unchanged}
 use Rattle.call_tree.proofs.Lists.{any_cases, any_none, has_here, has_there, has_cases, has_none, alike}
-use Rattle.call_tree.proofs.Steps.{set_length, set_other}
-use Rattle.call_tree.proofs.Deciding.{Decided, change_decided}
+use Rattle.flat_prog.proofs.Deciding.{Decided, change_decided}
 use Rattle.call_tree.proofs.OverLaw.{Admits}
+
+set_length : (gs : List Value) (n : ℕ) (v : Value) → length (slice_set gs n v) ≡ length gs
+set_length [] n v = refl
+set_length (g ∷ gs) zero v = refl
+set_length (g ∷ gs) (suc n) v = ap suc (set_length gs n v)
+
+set_other : (gs : List Value) (n m : ℕ) (v : Value) → (n ≡ m → ⊥) → slice_get (slice_set gs n v) m ≡ slice_get gs m
+set_other [] n m v e = refl
+set_other (g ∷ gs) zero zero v e = absurd (e refl)
+set_other (g ∷ gs) zero (suc m) v e = refl
+set_other (g ∷ gs) (suc n) zero v e = refl
+set_other (g ∷ gs) (suc n) (suc m) v e = set_other gs n m v (λ is. e (ap suc is))
 
 -- ---- the globals that are written are there
 

@@ -1,10 +1,6 @@
 pub mod Lists
-pub mod Sited
-pub mod Steps
 pub mod PartTrees
-pub mod Deciding
 pub mod Places
-pub mod Keeping
 pub mod Tracks
 pub mod OverLaw
 pub mod UnderLaw
@@ -18,8 +14,6 @@ pub mod Capping
 pub mod Example
 pub mod Descending
 pub mod Covering
-pub mod Once
-pub mod NodeRuns
 pub mod Reaching
 pub mod Downward
 pub mod Ways

@@ -1,5 +1,5 @@
 -- A failing run within the caps that meets a piece gives a failing partial run that meets it: below the calls that leave the tree, the runs are cut off.
-use Rattle.std.proofs.Common.{◌≡◌, ℕ, Bool, true, false, not, ◌&&◌, ◌||◌, List, [], ◌∷◌, ◌++◌, slice_get, Option, Some, bytes_eq, refl, sym, ap, ◌∙◌, subst}
+use Rattle.std.proofs.Common.{◌≡◌, ℕ, Bool, true, false, not, ◌&&◌, ◌||◌, List, [], ◌∷◌, ◌++◌, map, slice_get, Option, Some, bytes_eq, refl, sym, ap, ◌∙◌, subst}
 use Rattle.std.proofs.lemmas.Bool.{and_parts, and_from}
 use Rattle.hy_val.specs.declared.value.Value.{Value}
 use Rattle.flat_prog.specs.Program.{FlatProgram, blocks_of}
@@ -10,16 +10,15 @@ use Rattle.flat_prog.specs.Changes.{MayChange, MayBe, Unchanged, Keeps}
 use Rattle.flat_prog.specs.Sites.{sites_of, sites_passed, paths_of, paths_below}
 use Rattle.flat_prog.specs.Caps.{within}
 use Rattle.flat_prog.specs.Runs.{FailsIn, IsFull}
+use Rattle.flat_prog.specs.Passing.{Sited, Fits, AllFit}
+use Rattle.flat_prog.specs.Laws.{CallsOfRuns, RunsKeep}
 use Rattle.call_tree.specs.declared.piece.Decision2.{Decision2}
 use Rattle.call_tree.specs.declared.piece.Decision2.TheVariants.{Must, Avoid}
 use Rattle.call_tree.specs.Trees.{has_path, are_in, IsPartTree, callees, open_of}
 use Rattle.call_tree.specs.Pieces.{reaches, meets, names_of}
 use Rattle.call_tree.specs.Questions.{stands, stand_below, IsOver}
-use Rattle.call_tree.proofs.Steps.{requests, results_in, procs_in, Fits, AllFit, local_run}
-use Rattle.call_tree.proofs.Sited.{Sited}
 use Rattle.call_tree.proofs.PartTrees.{has_left, has_right, has_head}
 use Rattle.call_tree.proofs.Places.{LeadsTo, leads_on, site_opens, none_below, has-append, run_head, all_paths_have}
-use Rattle.call_tree.proofs.Keeping.{below_keeps}
 use Rattle.call_tree.specs.Tracks.{tracks_of, tracks_below, tracks_in}
 use Rattle.call_tree.proofs.Tracks.{no_tracks, track_kept}
 use Rattle.std.proofs.lemmas.List.Elements.{filter-append}
@@ -39,9 +38,9 @@ pub record CutRun (flat : FlatProgram) (entry bound : ℕ) (may : May) (tree : L
   pub same : (p : List ℕ) → has_path tree p ≡ true → has_path (paths_of part flat path) p ≡ has_path (paths_of run flat path) p
   pub tracks : tracks_of part flat path ≡ tracks_in tree (tracks_of run flat path)
 
-pub record CutBelow (flat : FlatProgram) (entry bound : ℕ) (may : May) (tree : List (List ℕ)) (consts : List Value) (below : Below) (path sites : List ℕ) (pairs : List (Request × Result)) : Type 0 where
+pub record CutBelow (flat : FlatProgram) (entry bound : ℕ) (may : May) (tree : List (List ℕ)) (consts : List Value) (below : Below) (path sites : List ℕ) (calls : List Request) (results : List Result) : Type 0 where
   pub part : Below
-  pub answers : Answer part flat may consts (requests pairs) (results_in pairs)
+  pub answers : Answer part flat may consts calls results
   pub fits : stand_below part flat (has_path tree) (has_path (open_of flat entry bound tree)) path sites ≡ true
   pub same : (p : List ℕ) → has_path tree p ≡ true → has_path (paths_below part flat path sites) p ≡ has_path (paths_below below flat path sites) p
   pub tracks : tracks_below part flat path sites ≡ tracks_in tree (tracks_below below flat path sites)
@@ -63,10 +62,10 @@ or_none : (a b c : Bool) → a ≡ false → c ≡ b → c ≡ (a || b)
 or_none a b c h k = k ∙ ap (λ x. x || b) (sym h)
 
 -- a node of the tree below: the child is cut itself
-keep_child : (flat : FlatProgram) (entry bound : ℕ) (may : May) (tree : List (List ℕ)) (consts : List Value) (run : Run) (below : Below) (path : List ℕ) (site : ℕ) (sites : List ℕ) (call : Request) (result : Result) (pairs : List (Request × Result)) (q : FlatProc) (begin : State) →
-    Begins flat (track_of run) call q begin → CutRun flat entry bound may tree consts run (path ++ site ∷ []) q begin result → CutBelow flat entry bound may tree consts below path sites pairs →
-    CutBelow flat entry bound may tree consts (inner run below) path (site ∷ sites) ((call, result) ∷ pairs)
-keep_child flat entry bound may tree consts run below path site sites call result pairs q begin begins c d = record {
+keep_child : (flat : FlatProgram) (entry bound : ℕ) (may : May) (tree : List (List ℕ)) (consts : List Value) (run : Run) (below : Below) (path : List ℕ) (site : ℕ) (sites : List ℕ) (call : Request) (result : Result) (calls : List Request) (results : List Result) (q : FlatProc) (begin : State) →
+    Begins flat (track_of run) call q begin → CutRun flat entry bound may tree consts run (path ++ site ∷ []) q begin result → CutBelow flat entry bound may tree consts below path sites calls results →
+    CutBelow flat entry bound may tree consts (inner run below) path (site ∷ sites) (call ∷ calls) (result ∷ results)
+keep_child flat entry bound may tree consts run below path site sites call result calls results q begin begins c d = record {
   part = inner c.part d.part;
   answers = ((q, begin, subst (λ (t : Track). Begins flat t call q begin) (sym c.same_track) begins, c.means), d.answers);
   fits = and_from (stands c.part flat (has_path tree) (has_path (open_of flat entry bound tree)) (path ++ site ∷ [])) (stand_below d.part flat (has_path tree) (has_path (open_of flat entry bound tree)) path sites) c.fits d.fits;
@@ -80,10 +79,10 @@ keep_child flat entry bound may tree consts run below path site sites call resul
 }
 
 -- an open site: the child is cut off
-free_site : (flat : FlatProgram) (entry bound : ℕ) (may : May) (tree : List (List ℕ)) (consts : List Value) (run : Run) (below : Below) (path : List ℕ) (site : ℕ) (sites : List ℕ) (call : Request) (result : Result) (pairs : List (Request × Result)) →
-    IsPartTree flat entry bound tree → has_path tree (path ++ site ∷ []) ≡ false → has_path (open_of flat entry bound tree) (path ++ site ∷ []) ≡ true → FreeChild may call result → CutBelow flat entry bound may tree consts below path sites pairs →
-    CutBelow flat entry bound may tree consts (inner run below) path (site ∷ sites) ((call, result) ∷ pairs)
-free_site flat entry bound may tree consts run below path site sites call result pairs is out opens f d = record {
+free_site : (flat : FlatProgram) (entry bound : ℕ) (may : May) (tree : List (List ℕ)) (consts : List Value) (run : Run) (below : Below) (path : List ℕ) (site : ℕ) (sites : List ℕ) (call : Request) (result : Result) (calls : List Request) (results : List Result) →
+    IsPartTree flat entry bound tree → has_path tree (path ++ site ∷ []) ≡ false → has_path (open_of flat entry bound tree) (path ++ site ∷ []) ≡ true → FreeChild may call result → CutBelow flat entry bound may tree consts below path sites calls results →
+    CutBelow flat entry bound may tree consts (inner run below) path (site ∷ sites) (call ∷ calls) (result ∷ results)
+free_site flat entry bound may tree consts run below path site sites call result calls results is out opens f d = record {
   part = free f.ends f.values d.part;
   answers = (f.may_be, d.answers);
   fits = and_from (has_path (open_of flat entry bound tree) (path ++ site ∷ [])) (stand_below d.part flat (has_path tree) (has_path (open_of flat entry bound tree)) path sites) opens d.fits;
@@ -95,59 +94,60 @@ free_site flat entry bound may tree consts run below path site sites call result
       ∙ sym (filter-append (λ n. has_path tree n.0) (tracks_of run flat (path ++ site ∷ [])) (tracks_below below flat path sites));
 }
 
-by_tree : (flat : FlatProgram) (entry bound : ℕ) (may : May) (tree : List (List ℕ)) (consts : List Value) (run : Run) (below : Below) (path : List ℕ) (site : ℕ) (sites : List ℕ) (call : Request) (result : Result) (pairs : List (Request × Result)) (q : FlatProc) (begin : State) →
-    IsPartTree flat entry bound tree → Begins flat (track_of run) call q begin → (b : Bool) → has_path tree (path ++ site ∷ []) ≡ b → CutBelow flat entry bound may tree consts below path sites pairs →
+by_tree : (flat : FlatProgram) (entry bound : ℕ) (may : May) (tree : List (List ℕ)) (consts : List Value) (run : Run) (below : Below) (path : List ℕ) (site : ℕ) (sites : List ℕ) (call : Request) (result : Result) (calls : List Request) (results : List Result) (q : FlatProc) (begin : State) →
+    IsPartTree flat entry bound tree → Begins flat (track_of run) call q begin → (b : Bool) → has_path tree (path ++ site ∷ []) ≡ b → CutBelow flat entry bound may tree consts below path sites calls results →
     (has_path tree (path ++ site ∷ []) ≡ true → CutRun flat entry bound may tree consts run (path ++ site ∷ []) q begin result) →
     (has_path tree (path ++ site ∷ []) ≡ false → has_path (open_of flat entry bound tree) (path ++ site ∷ []) ≡ true) → FreeChild may call result →
-    CutBelow flat entry bound may tree consts (inner run below) path (site ∷ sites) ((call, result) ∷ pairs)
-by_tree flat entry bound may tree consts run below path site sites call result pairs q begin is begins true on d go opens f =
-    keep_child flat entry bound may tree consts run below path site sites call result pairs q begin begins (go on) d
-by_tree flat entry bound may tree consts run below path site sites call result pairs q begin is begins false out d go opens f =
-    free_site flat entry bound may tree consts run below path site sites call result pairs is out (opens out) f d
+    CutBelow flat entry bound may tree consts (inner run below) path (site ∷ sites) (call ∷ calls) (result ∷ results)
+by_tree flat entry bound may tree consts run below path site sites call result calls results q begin is begins true on d go opens f =
+    keep_child flat entry bound may tree consts run below path site sites call result calls results q begin begins (go on) d
+by_tree flat entry bound may tree consts run below path site sites call result calls results q begin is begins false out d go opens f =
+    free_site flat entry bound may tree consts run below path site sites call result calls results is out (opens out) f d
 
 mutual
   pub cut_run : (run : Run) (flat : FlatProgram) (entry bound : ℕ) (may : May) (tree : List (List ℕ)) (consts : List Value) (path : List ℕ) (q : FlatProc) (begin : State) (result : Result) →
-      Admits flat may → IsPartTree flat entry bound tree → slice_get flat.procs (track_of run).proc ≡ Some q → LeadsTo flat entry path (track_of run).proc → has_path tree path ≡ true →
+      CallsOfRuns → RunsKeep flat → Admits flat may → IsPartTree flat entry bound tree → slice_get flat.procs (track_of run).proc ≡ Some q → LeadsTo flat entry path (track_of run).proc → has_path tree path ≡ true →
       ((p : List ℕ) → has_path (paths_of run flat path) p ≡ true → within flat entry bound p ≡ true) → Means run flat Never consts q begin result →
       CutRun flat entry bound may tree consts run path q begin result
-  cut_run (node track below) flat entry bound may tree consts path q begin result admits is proc leads at caps (results, calls, local, answer) =
+  cut_run (node track below) flat entry bound may tree consts path q begin result asks keep admits is proc leads at caps (results, calls, local, answer) =
       let sites = sites_passed (blocks_of (slice_get flat.procs track.proc)) track.path in
-      let l = local_run flat track.proc q consts track begin results calls result proc local in
-      let sited : Sited (callees flat track.proc) sites (procs_in l.pairs) =
-      subst (λ (o : Option FlatProc). Sited (sites_of (blocks_of o)) (sites_passed (blocks_of o) track.path) (procs_in l.pairs)) (sym proc) l.sited in
-      let answers : Answer below flat Never consts (requests l.pairs) (results_in l.pairs) =
-      subst (λ (x : List Request). Answer below flat Never consts x (results_in l.pairs)) l.calls_are (subst (λ (x : List Result). Answer below flat Never consts calls x) l.results_are answer) in
-      let d = cut_below below flat entry bound may tree consts path track.proc sites l.pairs admits is leads at sited l.fit (λ p on. caps p (has_right (path ∷ []) (paths_below below flat path sites) p on)) answers in
+      let l = asks flat track.proc q consts track begin results calls result proc local in
+      let sited : Sited (callees flat track.proc) sites (map (λ (r : Request). r.proc) calls) =
+      subst (λ (o : Option FlatProc). Sited (sites_of (blocks_of o)) (sites_passed (blocks_of o) track.path) (map (λ (r : Request). r.proc) calls)) (sym proc) l.sited in
+      let d = cut_below below flat entry bound may tree consts path track.proc sites calls results asks keep admits is leads at sited l.fit (λ p on. caps p (has_right (path ∷ []) (paths_below below flat path sites) p on)) answer in
       record {
         part = node track d.part;
         same_track = refl;
-        means = (results, calls, local, subst (λ (x : List Request). Answer d.part flat may consts x results) (sym l.calls_are) (subst (λ (x : List Result). Answer d.part flat may consts (requests l.pairs) x) (sym l.results_are) d.answers));
+        means = (results, calls, local, d.answers);
         fits = and_from (has_path tree path) (stand_below d.part flat (has_path tree) (has_path (open_of flat entry bound tree)) path sites) at d.fits;
         same = λ p on. ap (λ x. bytes_eq path p || x) (d.same p on);
         tracks = ap (λ ns. (path, track) ∷ ns) d.tracks ∙ sym (track_kept tree path track (tracks_below below flat path sites) at);
       }
 
-  pub cut_below : (below : Below) (flat : FlatProgram) (entry bound : ℕ) (may : May) (tree : List (List ℕ)) (consts : List Value) (path : List ℕ) (proc : ℕ) (sites : List ℕ) (pairs : List (Request × Result)) →
-      Admits flat may → IsPartTree flat entry bound tree → LeadsTo flat entry path proc → has_path tree path ≡ true →
-      Sited (callees flat proc) sites (procs_in pairs) → AllFit flat pairs →
-      ((p : List ℕ) → has_path (paths_below below flat path sites) p ≡ true → within flat entry bound p ≡ true) → Answer below flat Never consts (requests pairs) (results_in pairs) →
-      CutBelow flat entry bound may tree consts below path sites pairs
-  cut_below none flat entry bound may tree consts path proc sites [] admits is leads at sited fit caps h = record { part = none; answers = tt; fits = refl; same = λ p on. refl; tracks = refl }
-  cut_below none flat entry bound may tree consts path proc sites ((call, result) ∷ pairs) admits is leads at sited fit caps h = absurd h
-  cut_below (inner run below) flat entry bound may tree consts path proc sites [] admits is leads at sited fit caps h = absurd h
-  cut_below (inner run below) flat entry bound may tree consts path proc [] ((call, result) ∷ pairs) admits is leads at sited fit caps h = absurd sited
-  cut_below (inner run below) flat entry bound may tree consts path proc (site ∷ sites) ((call, result) ∷ pairs) admits is leads at sited fit caps ((q, begin, begins, means), rest) =
-      let d = cut_below below flat entry bound may tree consts path proc sites pairs admits is leads at sited.1 fit.1 (λ p on. caps p (has_right (paths_of run flat (path ++ site ∷ [])) (paths_below below flat path sites) p on)) rest in
+  pub cut_below : (below : Below) (flat : FlatProgram) (entry bound : ℕ) (may : May) (tree : List (List ℕ)) (consts : List Value) (path : List ℕ) (proc : ℕ) (sites : List ℕ) (calls : List Request) (results : List Result) →
+      CallsOfRuns → RunsKeep flat → Admits flat may → IsPartTree flat entry bound tree → LeadsTo flat entry path proc → has_path tree path ≡ true →
+      Sited (callees flat proc) sites (map (λ (r : Request). r.proc) calls) → AllFit flat calls results →
+      ((p : List ℕ) → has_path (paths_below below flat path sites) p ≡ true → within flat entry bound p ≡ true) → Answer below flat Never consts calls results →
+      CutBelow flat entry bound may tree consts below path sites calls results
+  cut_below none flat entry bound may tree consts path proc sites [] [] asks keep admits is leads at sited fit caps h = record { part = none; answers = tt; fits = refl; same = λ p on. refl; tracks = refl }
+  cut_below none flat entry bound may tree consts path proc sites [] (result ∷ results) asks keep admits is leads at sited fit caps h = absurd h
+  cut_below none flat entry bound may tree consts path proc sites (call ∷ calls) results asks keep admits is leads at sited fit caps h = absurd h
+  cut_below (inner run below) flat entry bound may tree consts path proc sites [] results asks keep admits is leads at sited fit caps h = absurd h
+  cut_below (inner run below) flat entry bound may tree consts path proc sites (call ∷ calls) [] asks keep admits is leads at sited fit caps h = absurd h
+  cut_below (inner run below) flat entry bound may tree consts path proc [] (call ∷ calls) (result ∷ results) asks keep admits is leads at sited fit caps h = absurd sited
+  cut_below (inner run below) flat entry bound may tree consts path proc (site ∷ sites) (call ∷ calls) (result ∷ results) asks keep admits is leads at sited fit caps ((q, begin, begins, means), rest) =
+      let d = cut_below below flat entry bound may tree consts path proc sites calls results asks keep admits is leads at sited.1 fit.1 (λ p on. caps p (has_right (paths_of run flat (path ++ site ∷ [])) (paths_below below flat path sites) p on)) rest in
       let called : slice_get (callees flat proc) site ≡ Some (track_of run).proc = sited.0 ∙ ap (λ p. Some p) (sym begins.same) in
       let here = caps (path ++ site ∷ []) (has_left (paths_of run flat (path ++ site ∷ [])) (paths_below below flat path sites) (path ++ site ∷ []) (run_head run flat (path ++ site ∷ []))) in
-      let keep = (below_keeps (inner run below) flat consts ((call, result) ∷ pairs) ((q, begin, begins, means), rest)).0 in
-      by_tree flat entry bound may tree consts run below path site sites call result pairs q begin is begins (has_path tree (path ++ site ∷ [])) refl d
-      (λ on. cut_run run flat entry bound may tree consts (path ++ site ∷ []) q begin result admits is begins.proc (leads_on flat entry path proc site (track_of run).proc leads called) on
+      let kept = keep.whole_calls consts run call result (q, begin, begins, means) in
+      by_tree flat entry bound may tree consts run below path site sites call result calls results q begin is begins (has_path tree (path ++ site ∷ [])) refl d
+      (λ on. cut_run run flat entry bound may tree consts (path ++ site ∷ []) q begin result asks keep admits is begins.proc (leads_on flat entry path proc site (track_of run).proc leads called) on
       (λ p in_run. caps p (has_left (paths_of run flat (path ++ site ∷ [])) (paths_below below flat path sites) p in_run)) means)
       (λ out. site_opens flat entry bound tree path proc site (track_of run).proc leads called at here out)
-      (free_child flat may call result admits fit.0 keep)
-  cut_below (free ends values below) flat entry bound may tree consts path proc sites [] admits is leads at sited fit caps h = absurd h
-  cut_below (free ends values below) flat entry bound may tree consts path proc sites ((call, result) ∷ pairs) admits is leads at sited fit caps h = absurd h.0
+      (free_child flat may call result admits fit.0 kept)
+  cut_below (free ends values below) flat entry bound may tree consts path proc sites [] results asks keep admits is leads at sited fit caps h = absurd h
+  cut_below (free ends values below) flat entry bound may tree consts path proc sites (call ∷ calls) [] asks keep admits is leads at sited fit caps h = absurd h
+  cut_below (free ends values below) flat entry bound may tree consts path proc sites (call ∷ calls) (result ∷ results) asks keep admits is leads at sited fit caps h = absurd h.0
 
 -- where two runs reach the same of a tree, they meet the same pieces that name its nodes
 pub meets_alike : (one other : List ℕ → Bool) (tree : List (List ℕ)) (piece : List (List ℕ × Decision2)) → ((p : List ℕ) → has_path tree p ≡ true → one p ≡ other p) → are_in (names_of piece) tree ≡ true → meets one piece ≡ meets other piece
@@ -164,11 +164,11 @@ root_in flat entry bound tree is = subst (λ (t : List (List ℕ)). has_path t [
 
 -- the over law
 pub over_law : (flat : FlatProgram) (entry bound : ℕ) (tree : List (List ℕ)) (piece : List (List ℕ × Decision2)) (run : Run) (proc number : ℕ) →
-    Admits flat (MayBe flat) → IsPartTree flat entry bound tree → are_in (names_of piece) tree ≡ true → IsFull flat entry bound run → FailsIn flat entry run proc number → meets (reaches flat run) piece ≡ true →
+    CallsOfRuns → RunsKeep flat → Admits flat (MayBe flat) → IsPartTree flat entry bound tree → are_in (names_of piece) tree ≡ true → IsFull flat entry bound run → FailsIn flat entry run proc number → meets (reaches flat run) piece ≡ true →
     (part : Run) × (over : IsOver flat entry bound tree piece part) × (over.proc ≡ proc) × (over.number ≡ number) × (tracks_of part flat [] ≡ tracks_in tree (tracks_of run flat []))
-over_law flat entry bound tree piece run proc number admits is names full m meet =
+over_law flat entry bound tree piece run proc number asks keep admits is names full m meet =
     let leads : LeadsTo flat entry [] (track_of run).proc = record { procs = entry ∷ []; exists = refl; last = sym m.same } in
-    let c = cut_run run flat entry bound (MayBe flat) tree m.consts [] m.proc m.begin (Broken proc number) admits is
+    let c = cut_run run flat entry bound (MayBe flat) tree m.consts [] m.proc m.begin (Broken proc number) asks keep admits is
     (ap (λ p. slice_get flat.procs p) m.same ∙ m.proc_is) leads (root_in flat entry bound tree is)
     (λ p on. all_paths_have (within flat entry bound) (paths_of run flat []) p full.within_caps on) m.means in (
       c.part,

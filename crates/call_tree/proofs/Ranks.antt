@@ -9,7 +9,7 @@ use Rattle.flat_prog.specs.declared.block.FlatCmd.{FlatCmd}
 use Rattle.flat_prog.specs.declared.block.FlatCmd.TheVariants.{Assign, Havoc, Assume, Assert, Call}
 use Rattle.flat_prog.specs.declared.block.FlatBlock.{FlatBlock}
 use Rattle.flat_prog.specs.declared.proc.FlatProc.{FlatProc}
-use Rattle.call_tree.specs.Once.{has_number}
+use Rattle.flat_prog.specs.Once.{has_number}
 use Rattle.call_tree.proofs.Lists.{any_here, any_there, has_cases, has_none}
 use Rattle.call_tree.proofs.Freeing.{any_all, all_at}
 use Rattle.std.specs.List.{list_all}

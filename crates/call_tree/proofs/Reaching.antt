@@ -1,17 +1,22 @@
 -- The child at a site, found block by block.
-use Rattle.std.proofs.Common.{◌≡◌, ℕ, zero, suc, ◌+◌, ◌-◌, ◌<◌, ◌≤◌, false, nat_eq, if◌then◌else◌, List, [], ◌∷◌, ◌++◌, length, take, drop, slice_get, slice_index_or, None, Ok, Err, option_and_then, refl, sym, ap, ◌∙◌, arith, not-suc-le-zero}
+use Rattle.std.proofs.Common.{◌≡◌, ℕ, zero, suc, ◌+◌, ◌-◌, ◌<◌, ◌≤◌, true, false, nat_eq, if◌then◌else◌, List, [], ◌∷◌, ◌++◌, length, take, drop, slice_get, slice_index_or, None, Ok, Err, option_and_then, refl, sym, ap, ◌∙◌, arith, not-suc-le-zero, true≢false, ⊎_elim}
 use Rattle.std.proofs.lemmas.Option.{slice_get_read}
-use Rattle.std.proofs.lemmas.Bool.{or_parts, eq-eqb, ne_eqb, false_from_ne_true}
+use Rattle.std.proofs.lemmas.Bool.{or_parts, or_cases, eq-eqb, eqb-true, ne_eqb, false_from_ne_true}
 use Rattle.flat_prog.specs.declared.block.FlatCmd.{FlatCmd}
 use Rattle.flat_prog.specs.declared.block.FlatBlock.{FlatBlock}
 use Rattle.flat_prog.specs.declared.run.Child.{Child}
 use Rattle.flat_prog.specs.Sites.{calls_of, sites_of, numbers_from, calls_at, sites_passed}
-use Rattle.call_tree.specs.Once.{has_number}
+use Rattle.flat_prog.specs.Once.{has_number}
 use Rattle.call_tree.specs.Walks.{seek, node_of, child_for}
 use Rattle.call_tree.specs.Reaching.{sites_in, Finds}
 use Rattle.call_tree.specs.declared.reach.InBlock.TheVariants.{Here, Behind}
 use Rattle.call_tree.proofs.Seeking.{seek_past, seek_within, next_of}
-use Rattle.call_tree.proofs.Once.{in_numbers}
+
+in_numbers : (first count n : ℕ) → has_number (numbers_from first count) n ≡ true → (first ≤ n) × (n < first + count)
+in_numbers first zero n h = absurd (true≢false (sym h))
+in_numbers first (suc count) n h =
+    ⊎_elim (λ e. let k = eqb-true first n e in (omega arith, omega arith)) (λ e. let r = in_numbers (first + 1) count n e in let l = r.0 in let m = r.1 in (omega arith, omega arith))
+    (or_cases (nat_eq first n) (has_number (numbers_from (first + 1) count) n) h)
 
 drop_none : (children : List Child) → drop 0 children ≡ children
 drop_none [] = refl

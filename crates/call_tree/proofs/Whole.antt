@@ -3,6 +3,7 @@ use Rattle.std.proofs.Common.{◌≡◌, ℕ, zero, suc, ◌+◌, ◌≤◌, tru
 use Rattle.std.proofs.lemmas.Bool.{and_parts, and_from, or_cases, or_right, both_ways, not-true, not_from_false, false_from_ne_true}
 use Rattle.flat_prog.specs.Program.{FlatProgram}
 use Rattle.flat_prog.specs.Sites.{numbers_from}
+use Rattle.flat_prog.specs.Laws.{CallsOfRuns, AllRunsKeep}
 use Rattle.call_tree.specs.Trees.{has_path, are_in, all_differ, parent, IsPartTree, callees, proc_at, extended, sites_at, all_sites, is_open, open_of}
 use Rattle.call_tree.specs.Questions.{frees_of}
 use Rattle.call_tree.specs.AllPaths.{all_paths}
@@ -14,9 +15,9 @@ use Rattle.call_tree.proofs.UnderLaw.{under_law, over_passes}
 use Rattle.call_tree.proofs.Freeing.{may_be_admits}
 use Rattle.call_tree.proofs.Finite.{all_paths_have, all_paths_within, all_paths_differ, append_differ, filter_differ}
 
-pub over : OverLaw
-over flat entry bound tree piece run proc number fits is names full fails meet =
-    over_law flat entry bound tree piece run proc number (may_be_admits flat fits) is names full fails meet
+pub over : CallsOfRuns → AllRunsKeep → OverLaw
+over asks keep flat entry bound tree piece run proc number fits is names full fails meet =
+    over_law flat entry bound tree piece run proc number asks (keep flat) (may_be_admits flat fits) is names full fails meet
 
 pub under : UnderLaw
 under flat entry bound tree piece run is h = under_law flat entry bound tree piece run is h

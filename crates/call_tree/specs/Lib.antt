@@ -5,7 +5,6 @@ pub mod AllPaths
 pub mod Laws
 pub mod Walks
 pub mod Splits
-pub mod Once
 pub mod Reaching
 pub mod Tracks
 pub mod Standing

@@ -2,14 +2,18 @@
 //! full inlining, and bound how far a search can go.
 ghost use Rattle.call_tree.specs.Descent.{DescentLaw, EntryLaw};
 ghost use Rattle.call_tree.specs.Laws.{OverLaw, UnderLaw, InlineLaw, GrowLaw, FiniteLaw, SizeLaw, RootLaw, OpensLaw, UndecidedLaw, CountLaw, NodesLaw, SiteLaw};
-ghost use Rattle.call_tree.specs.Once.{OnceLaw};
 ghost use Rattle.call_tree.specs.Splits.{CoverLaw, DecisionLaw, SafeLaw};
+
+use flat_prog::{calls_go_to_the_sites_passed, runs_keep};
 
 /// A failing run within the caps that meets a piece gives a failing partial run that meets it: below the calls that leave the tree,
 /// free children stand for what is cut off. It fails in the same assert, and has the same track at each node.
 pub fn full_trees_have_partial_runs()
     ensures { OverLaw }
-{}
+{
+    calls_go_to_the_sites_passed();
+    runs_keep();
+}
 
 /// A failing partial run without a free child is a failing run within the caps.
 pub fn whole_partial_runs_are_full_trees()
@@ -44,12 +48,9 @@ pub fn pieces_cover_all()
 /// Where the over question has no member for each piece at the ends of a tree of splits, no run within the caps fails.
 pub fn closed_pieces_are_safe()
     ensures { SafeLaw }
-{}
-
-/// The sites on the path of a run differ.
-pub fn sites_are_passed_once()
-    ensures { OnceLaw }
-{}
+{
+    full_trees_have_partial_runs();
+}
 
 /// A run tree reaches a path exactly where one gets down along it from the root, site by site.
 pub fn paths_are_reached_by_going_down()

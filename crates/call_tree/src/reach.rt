@@ -7,13 +7,15 @@ ghost use Rattle.flat_prog.specs.Program.{blocks_of};
 ghost use Rattle.flat_prog.specs.Sites.{calls_of, numbers_from, sites_passed};
 ghost use Rattle.call_tree.specs.Descent.{IsRunTree};
 ghost use Rattle.call_tree.specs.Pieces.{reaches};
-ghost use Rattle.call_tree.specs.Once.{has_number};
+ghost use Rattle.flat_prog.specs.Once.{has_number};
 ghost use Rattle.call_tree.specs.Walks.{node_of, child_for};
 ghost use Rattle.call_tree.specs.Reaching.{sites_in, Finds};
 
 use crate::path::SitePath;
 use crate::sites::{seek_call, seek_sites};
-use flat_prog::{Child, Flat, FlatBlock, FlatCmd, RunNode, RunTree};
+use flat_prog::{
+    Child, Flat, FlatBlock, FlatCmd, RunNode, RunTree, nodes_are_runs, sites_are_passed_once,
+};
 
 // What a block on the way says of the child at a site.
 #[derive(Clone, Copy, Debug, PartialEq, Eq)]
@@ -108,6 +110,8 @@ pub fn reaches(flat: &Flat, run: &RunTree, path: &SitePath) -> bool
     requires { IsRunTree flat.now (run_of run.now) }
     ensures { result ≡ reaches flat.now (run_of run.now) path.now }
 {
+    sites_are_passed_once();
+    nodes_are_runs();
     // That the program is one rests on its type.
     let _ = flat.consts();
     let nodes = run.nodes();

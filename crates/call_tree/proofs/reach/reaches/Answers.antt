@@ -15,12 +15,12 @@ loop-site-init c =
 pub loop-site-preserved : goal.loop-site-preserved
 loop-site-preserved c =
     at_next c.args.flat.now c.nodes-nodes.result.now c.sites-sites.result.now c.loop-site.site-index c.loop-site.at (slice_index_or c.sites-sites.result.now c.loop-site.site-index 0) c.in-Some.next c.child_of.result
-    c.consts.ensures.kept c.nodes-nodes.ensures.kept c.loop-site.invariant c.loop-site-test.true (same_index c.sites-sites.result.now c.loop-site.site-index 0 c.loop-site-test.true) c.child_of.ensures c.in-Some.is
+    c.sites_are_passed_once.ensures c.nodes_are_runs.ensures c.consts.ensures.kept c.nodes-nodes.ensures.kept c.loop-site.invariant c.loop-site-test.true (same_index c.sites-sites.result.now c.loop-site.site-index 0 c.loop-site-test.true) c.child_of.ensures c.in-Some.is
 
 pub returns-in-None : goal.returns-in-None
 returns-in-None c =
     at_none c.args.flat.now c.nodes-nodes.result.now c.sites-sites.result.now c.loop-site.site-index c.loop-site.at (slice_index_or c.sites-sites.result.now c.loop-site.site-index 0) c.child_of.result
-    c.consts.ensures.kept c.nodes-nodes.ensures.kept c.loop-site.invariant c.loop-site-test.true (same_index c.sites-sites.result.now c.loop-site.site-index 0 c.loop-site-test.true) c.child_of.ensures c.in-None.is
+    c.sites_are_passed_once.ensures c.nodes_are_runs.ensures c.consts.ensures.kept c.nodes-nodes.ensures.kept c.loop-site.invariant c.loop-site-test.true (same_index c.sites-sites.result.now c.loop-site.site-index 0 c.loop-site-test.true) c.child_of.ensures c.in-None.is
     ∙ ap (λ (ns : List RunNode). reaches c.args.flat.now (run_of ns) c.sites-sites.result.now) c.nodes-nodes.ensures.value
     ∙ ap (λ (p : List ℕ). reaches c.args.flat.now (run_of c.args.run.now) p) c.sites-sites.ensures
 
