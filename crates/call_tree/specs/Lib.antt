@@ -1,0 +1,12 @@
+pub mod Trees
+pub mod Pieces
+pub mod Questions
+pub mod AllPaths
+pub mod Laws
+pub mod Walks
+pub mod Splits
+pub mod Reaching
+pub mod Tracks
+pub mod Standing
+pub mod Descent
+pub mod Tallies
