@@ -49,8 +49,8 @@ module _ (q : Linked) (base : List TermNode) (all : all_fit q base (length q.tre
   variable_at : (m j number : ℕ) (sort : Sort) (s : Source) → m < length q.tree → IsVariable q m j number sort → source q m number ≡ s → source_fits q base m j sort s ≡ true
   variable_at m j number sort s l is src =
       let here = at_each (λ i. fits_if q base m i (slice_get (nodes_of q m) i)) (nodes_fit q base m)
-          (λ i h. and_parts (nodes_fit q base m i) (fits_if q base m i (slice_get (nodes_of q m) i)) h) (length (nodes_of q m)) j (tree_at m l).1
-          (slice_get_within (nodes_of q m) j (Variable number sort) is) in
+      (λ i h. and_parts (nodes_fit q base m i) (fits_if q base m i (slice_get (nodes_of q m) i)) h) (length (nodes_of q m)) j (tree_at m l).1
+      (slice_get_within (nodes_of q m) j (Variable number sort) is) in
       ap (source_fits q base m j sort) (sym src) ∙ (ap (fits_if q base m j) (sym is) ∙ here)
 
   some_of : (o : Option (List Sort)) → is_some o ≡ true → IsSome o
