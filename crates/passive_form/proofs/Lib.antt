@@ -1,0 +1,6 @@
+pub mod Passing
+pub mod There
+pub mod Loops
+pub mod Marking
+pub mod Exprs
+pub mod TableRows
