@@ -4,3 +4,5 @@ pub mod Loops
 pub mod Marking
 pub mod Exprs
 pub mod TableRows
+pub mod Slimming
+pub mod Sorting

@@ -10,7 +10,9 @@ use Rattle.flat_prog.specs.declared.block.FlatBlock.{FlatBlock}
 use Rattle.flat_prog.specs.declared.block.FlatCmd.{FlatCmd}
 use Rattle.flat_prog.specs.declared.block.FlatCmd.TheVariants.{Assign, Havoc, Assume, Assert, Call}
 use Rattle.flat_prog.specs.declared.proc.FlatProc.{FlatProc}
-use Rattle.passive_form.specs.Limited.{Limited}
+use Rattle.flat_prog.specs.Program.{FlatProgram}
+use Rattle.flat_prog.specs.Shape.{IsFlat}
+use Rattle.passive_form.specs.Limited.{Limited, limited}
 use Rattle.passive_form.specs.Local.{State, alone, sort_of, pass_all}
 use Rattle.passive_form.specs.WellSorted.{ProcSorted}
 use Rattle.passive_form.specs.Versions.{Cur, env_of, Defined, hold, taken_values, taken_results, made_calls}
@@ -58,3 +60,7 @@ ItemsSay =
 -- the blocks of an order are there, block 0 among them
 abbrev pub OrderedAreThere : Type 0
 OrderedAreThere = (flat : Limited) (q : FlatProc) (order : List ℕ) → ProcSorted flat q → 0 < length q.blocks → IsOrderOf q order → (is_in 0 order ≡ true) × AllThere flat q order
+
+-- the procedures of a flat program have their sorts
+abbrev pub ProcsAreSorted : Type 0
+ProcsAreSorted = (flat : FlatProgram) (limits : List (List Bool)) (p : ℕ) (q : FlatProc) → IsFlat flat → slice_get flat.procs p ≡ Some q → ProcSorted (limited flat limits) q

@@ -5,3 +5,4 @@ pub mod Versions
 pub mod Making
 pub mod Drafts
 pub mod Laws
+pub mod SameRuns
