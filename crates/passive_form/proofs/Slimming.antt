@@ -5,7 +5,7 @@ use Rattle.std.specs.Option.{option_and_then}
 use Rattle.std.proofs.lemmas.Bool.{eq-eqb}
 use Rattle.hy_val.specs.Exprs.{eval}
 use Rattle.hy_val.specs.Scope.{sort_of_target}
-use Rattle.hy_val.specs.Stores.{Store, env_with, holds, is_value_of, write as store_write, write_all as store_write_all}
+use Rattle.hy_val.specs.Stores.{Store, env_with, have_sorts, holds, is_value_of, write as store_write, write_all as store_write_all}
 use Rattle.hy_val.specs.Values.{has_sort, zero_of}
 use Rattle.hy_val.specs.declared.sort.Sort.{Sort}
 use Rattle.hy_val.specs.declared.value.Value.{Value}
@@ -23,7 +23,7 @@ use Rattle.flat_prog.specs.declared.block.FlatBlock.{FlatBlock}
 use Rattle.flat_prog.specs.declared.proc.FlatKind.{FlatKind}
 use Rattle.flat_prog.specs.declared.proc.FlatKind.TheVariants.{Source, Loop}
 use Rattle.flat_prog.specs.declared.proc.FlatProc.{FlatProc}
-use Rattle.flat_prog.specs.Local.{Result, Ended, Broken, Request, Track, StopEnds, StopFails, Stop, Tail, Begins, fill_one, fill, begin_of, exit_value, assert_fails, have_sorts, State as FlatState, LocalRun as FlatRun}
+use Rattle.flat_prog.specs.Local.{Result, Ended, Broken, Request, Track, StopEnds, StopFails, Stop, Tail, Begins, fill_one, fill, begin_of, exit_value, assert_fails, State as FlatState, LocalRun as FlatRun}
 use Rattle.flat_prog.specs.Local as flats
 use Rattle.flat_prog.specs.Changes.{MayChange, Unchanged, Keeps, AllKeep}
 use Rattle.flat_prog.specs.Limits.{row, AreLimits}
@@ -113,10 +113,6 @@ sort_is flat limits q (Const n) = refl
 sort_is flat limits q (Global n) = refl
 sort_is flat limits q (Local n) = ap (λ (ls : List Sort). slice_get ls n) (append_assoc q.ins q.outs q.locals)
 
-value_is : (o : Option Sort) (v : Value) → is_value_of o v ≡ flats.is_value_of o v
-value_is None v = refl
-value_is (Some s) v = refl
-
 -- ---- results, call by call
 
 slims_append : (limits : List (List Bool)) (cs ds : List Request) (rs ts : List Result) → length rs ≡ length cs → slims limits (cs ++ ds) (rs ++ ts) ≡ slims limits cs rs ++ slims limits ds ts
@@ -170,8 +166,8 @@ module _ (flat : FlatProgram) (limits : List (List Bool)) (q : FlatProc) (consts
       (s.results ≡ m.results) × (s.calls ≡ m.calls) × ((rest : List Result) → havoc_with (limited flat limits) q x (given consts s rest) s.values ≡ Some (given consts m rest))
   havoc_one_slim x s m [] e h = cc
   havoc_one_slim x s m (v ∷ vs) e h =
-      let c = choose (flats.is_value_of (sort_of_target (scope_of flat q) x) v) (record s { store = store_write s.store x v; values = vs }) m h in
-      let test : is_value_of (sort_of (limited flat limits) q x) v ≡ true = ap (λ o. is_value_of o v) (sort_is flat limits q x) ∙ value_is (sort_of_target (scope_of flat q) x) v ∙ c.0 in
+      let c = choose (is_value_of (sort_of_target (scope_of flat q) x) v) (record s { store = store_write s.store x v; values = vs }) m h in
+      let test : is_value_of (sort_of (limited flat limits) q x) v ≡ true = ap (λ o. is_value_of o v) (sort_is flat limits q x) ∙ c.0 in
       (ap (λ (y : FlatState). y.results) c.1, ap (λ (y : FlatState). y.calls) c.1,
        λ rest. ap (havoc_with (limited flat limits) q x (given consts s rest)) e
          ∙ ap (λ b. if b then Some (alone (write (env_with consts s.store) x v) vs rest s.calls) else None) test

@@ -1,6 +1,6 @@
 -- What the passive form means: the items of a block say of versions what its commands do to variables; and what an order of blocks names is
 -- there.
-use Rattle.std.specs.Prelude.{◌≡◌, ℕ, ◌+◌, ◌<◌, Bool, true, ◌&&◌, List, [], ◌∷◌, ◌++◌, length, slice_get, Option, None, Some, is_some, if◌then◌else◌}
+use Rattle.std.specs.Prelude.{◌≡◌, ℕ, ◌+◌, ◌<◌, ◌≤◌, Bool, true, ◌&&◌, List, [], ◌∷◌, ◌++◌, length, slice_get, Option, None, Some, is_some, if◌then◌else◌}
 use Rattle.hy_val.specs.declared.expr.Env.{Env}
 use Rattle.hy_val.specs.declared.expr.Var.{Var}
 use Rattle.hy_val.specs.declared.value.Value.{Value}
@@ -16,7 +16,8 @@ use Rattle.passive_form.specs.Limited.{Limited, limited}
 use Rattle.passive_form.specs.Local.{State, alone, sort_of, pass_all}
 use Rattle.passive_form.specs.WellSorted.{ProcSorted}
 use Rattle.passive_form.specs.Versions.{Cur, env_of, Defined, hold, taken_values, taken_results, made_calls}
-use Rattle.passive_form.specs.Making.{items_all, cur_end}
+use Rattle.passive_form.specs.Making.{items_all, cur_end, passive_of}
+use Rattle.passive_form.specs.declared.Passive.{Passive}
 
 -- the state behind commands that hold; none where they do not
 abbrev pub outcome : Bool → Env → List Value → List Result → List Request → Option State
@@ -64,3 +65,12 @@ OrderedAreThere = (flat : Limited) (q : FlatProc) (order : List ℕ) → ProcSor
 -- the procedures of a flat program have their sorts
 abbrev pub ProcsAreSorted : Type 0
 ProcsAreSorted = (flat : FlatProgram) (limits : List (List Bool)) (p : ℕ) (q : FlatProc) → IsFlat flat → slice_get flat.procs p ≡ Some q → ProcSorted (limited flat limits) q
+
+-- ---- the passive form of a procedure of a program
+
+-- it is the passive form by an order of all blocks in which each edge leads on, with no more numbers than there are blocks
+pub record IsPassiveOf (flat : Limited) (q : FlatProc) (p : Passive) : Type 0 where
+  pub order : List ℕ
+  pub ordered : IsOrderOf q order
+  pub few : length order ≤ length q.blocks
+  pub is : p ≡ passive_of flat q order

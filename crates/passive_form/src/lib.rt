@@ -11,6 +11,7 @@ mod program;
 mod renaming;
 mod sites;
 mod starting;
+mod whole;
 
 use flat_prog::FlatNext;
 use hy_val::{Expr, Sort};
@@ -20,6 +21,7 @@ pub use laws::{
 };
 pub use making::passive_of;
 use sqlite_items::Items;
+pub use whole::passive_form_of;
 
 /// What a block says of its versions, one item for each assignment, condition, havoc or call, in order. The versions of a block are
 /// numbered from 0: first those with which it is entered, of the globals and then of the locals, then those that the items make. An
