@@ -6,3 +6,4 @@ pub mod Exprs
 pub mod TableRows
 pub mod Slimming
 pub mod Sorting
+pub mod Widening

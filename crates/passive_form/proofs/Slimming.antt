@@ -33,20 +33,20 @@ use Rattle.passive_form.specs.SameRuns.{slim, slims, in_env, StartIs, LimitedRun
 
 -- ---- options and tests
 
-and_then : {A B : Type 0} (f : A → Option B) (o : Option A) (b : B) → option_and_then f o ≡ Some b → (a : A) × (o ≡ Some a) × (f a ≡ Some b)
+pub and_then : {A B : Type 0} (f : A → Option B) (o : Option A) (b : B) → option_and_then f o ≡ Some b → (a : A) × (o ≡ Some a) × (f a ≡ Some b)
 and_then f None b h = cc
 and_then f (Some a) b h = (a, refl, h)
 
-choose : {A : Type 0} (b : Bool) (s t : A) → (if b then Some s else None) ≡ Some t → (b ≡ true) × (s ≡ t)
+pub choose : {A : Type 0} (b : Bool) (s t : A) → (if b then Some s else None) ≡ Some t → (b ≡ true) × (s ≡ t)
 choose true s t h = (refl, cc)
 choose false s t h = cc
 
-some_same : {A : Type 0} (s t : A) → Some s ≡ Some t → s ≡ t
+pub some_same : {A : Type 0} (s t : A) → Some s ≡ Some t → s ≡ t
 some_same s t h = cc
 
 -- ---- sorts
 
-sorted_is : (vs : List Value) (ss : List Sort) → have_sorts vs ss ≡ sorted_as ss vs
+pub sorted_is : (vs : List Value) (ss : List Sort) → have_sorts vs ss ≡ sorted_as ss vs
 sorted_is [] [] = refl
 sorted_is [] (s ∷ ss) = refl
 sorted_is (v ∷ vs) [] = refl
@@ -80,7 +80,7 @@ replaced_picked (false ∷ ms) (x ∷ xs) (y ∷ ys) n h =
     let e : x ≡ y = some_same x y (sym (h 0 refl)) in
     ap (λ z. z ∷ replaced ms xs (picked ms ys)) e ∙ ap (λ zs. y ∷ zs) (replaced_picked ms xs ys (omega (arith, n)) (λ g. h (suc g)))
 
-unmarked : (flat : FlatProgram) (limits : List (List Bool)) (p g : ℕ) → AreLimits flat limits → slice_index_or (row limits p) g false ≡ false → MayChange flat g p → ⊥
+pub unmarked : (flat : FlatProgram) (limits : List (List Bool)) (p g : ℕ) → AreLimits flat limits → slice_index_or (row limits p) g false ≡ false → MayChange flat g p → ⊥
 unmarked flat limits p g are off may = let on = (are.exact p g).1 may in let clash : true ≡ false = sym on ∙ off in cc
 
 kept_globals : (flat : FlatProgram) (limits : List (List Bool)) (call : Request) (outs globals : List Value) → AreLimits flat limits → Keeps flat call (Ended outs globals) →
@@ -90,25 +90,25 @@ kept_globals flat limits call outs globals are keeps =
 
 -- ---- writing
 
-write_is : (consts : List Value) (s : Store) (x : Var) (v : Value) → env_with consts (store_write s x v) ≡ write (env_with consts s) x v
+pub write_is : (consts : List Value) (s : Store) (x : Var) (v : Value) → env_with consts (store_write s x v) ≡ write (env_with consts s) x v
 write_is consts s (Const n) v = refl
 write_is consts s (Global n) v = refl
 write_is consts s (Local n) v = refl
 
-writes_are : (consts : List Value) (s : Store) (xs : List Var) (vs : List Value) → env_with consts (store_write_all s xs vs) ≡ write_all (env_with consts s) xs vs
+pub writes_are : (consts : List Value) (s : Store) (xs : List Var) (vs : List Value) → env_with consts (store_write_all s xs vs) ≡ write_all (env_with consts s) xs vs
 writes_are consts s [] vs = refl
 writes_are consts s (x ∷ xs) [] = refl
 writes_are consts s (x ∷ xs) (v ∷ vs) = writes_are consts (store_write s x v) xs vs ∙ ap (λ (e : Env). write_all e xs vs) (write_is consts s x v)
 
-targets_are : (pairs : List (Var × List ExprNode)) → map (λ (p : Var × List ExprNode). p.0) pairs ≡ targets_of pairs
+pub targets_are : (pairs : List (Var × List ExprNode)) → map (λ (p : Var × List ExprNode). p.0) pairs ≡ targets_of pairs
 targets_are [] = refl
 targets_are (p ∷ pairs) = ap (λ xs. p.0 ∷ xs) (targets_are pairs)
 
-assigned_is : (env : Env) (pairs : List (Var × List ExprNode)) → map (λ (p : Var × List ExprNode). eval env p.1) pairs ≡ assigned env pairs
+pub assigned_is : (env : Env) (pairs : List (Var × List ExprNode)) → map (λ (p : Var × List ExprNode). eval env p.1) pairs ≡ assigned env pairs
 assigned_is env [] = refl
 assigned_is env (p ∷ pairs) = ap (λ vs. eval env p.1 ∷ vs) (assigned_is env pairs)
 
-sort_is : (flat : FlatProgram) (limits : List (List Bool)) (q : FlatProc) (x : Var) → sort_of (limited flat limits) q x ≡ sort_of_target (scope_of flat q) x
+pub sort_is : (flat : FlatProgram) (limits : List (List Bool)) (q : FlatProc) (x : Var) → sort_of (limited flat limits) q x ≡ sort_of_target (scope_of flat q) x
 sort_is flat limits q (Const n) = refl
 sort_is flat limits q (Global n) = refl
 sort_is flat limits q (Local n) = ap (λ (ls : List Sort). slice_get ls n) (append_assoc q.ins q.outs q.locals)
@@ -130,7 +130,7 @@ keep_both flat (c ∷ cs) ds (r ∷ rs) ts n (h, hs) = let k = keep_both flat cs
 -- ---- what commands do
 
 -- the state with these results
-abbrev given : List Value → FlatState → List Result → State
+abbrev pub given : List Value → FlatState → List Result → State
 given consts s rs = alone (env_with consts s.store) s.values rs s.calls
 
 -- from s to t these calls are made and their results taken; so it is with the slim results
@@ -386,7 +386,7 @@ fill_is (x ∷ ss) s t h =
      ∙ ap (λ (ls : List Value). record s { store = record { globals = s.store.globals; locals = ls }; values = drop (length ss) vs }) (append_assoc s.store.locals (v ∷ []) (take (length ss) vs))
      ∙ ap (λ (ws : List Value). record s { store = record { globals = s.store.globals; locals = s.store.locals ++ take (suc (length ss)) ws }; values = drop (suc (length ss)) ws }) (sym one.2))
 
-begin_is : (q : FlatProc) (kind : FlatKind) (consts globals args values : List Value) (begin : FlatState) → begin_of q kind globals args values ≡ Some begin →
+pub begin_is : (q : FlatProc) (kind : FlatKind) (consts globals args values : List Value) (begin : FlatState) → begin_of q kind globals args values ≡ Some begin →
     (start q kind consts globals args values ≡ Some (in_env consts begin)) × (begin.results ≡ []) × (begin.calls ≡ [])
 begin_is q (Source p) consts globals args values begin h =
     let ss = q.outs ++ q.locals in

@@ -152,7 +152,7 @@ index_is [] n x e = cc
 index_is (y ∷ ys) zero x e = cc
 index_is (y ∷ ys) (suc n) x e = index_is ys n x e
 
-proc_at : {A : Type 0} (P : A → Type 0) (xs : List A) (n : ℕ) (x : A) → All P xs → slice_get xs n ≡ Some x → P x
+pub proc_at : {A : Type 0} (P : A → Type 0) (xs : List A) (n : ℕ) (x : A) → All P xs → slice_get xs n ≡ Some x → P x
 proc_at P xs n x all e = subst P (index_is xs n x e) (all n x (slice_get_within xs n x e))
 
 locals_of : (flat : FlatProgram) (q : FlatProc) → IsFlatProc flat q → list_all is_sort (variables_of q) ≡ true

@@ -1,6 +1,8 @@
 //! Laws of the passive form.
 ghost use Rattle.passive_form.specs.Laws.{ItemsSay, OrderedAreThere, ProcsAreSorted};
-ghost use Rattle.passive_form.specs.SameRuns.{StartIs, LimitedRun};
+ghost use Rattle.passive_form.specs.SameRuns.{StartIs, LimitedRun, PlainRun};
+
+use flat_prog::runs_keep_sorts;
 
 /// The items of a block say of versions what its commands do to variables: under values of the versions that fit the items' definitions
 /// the commands pass exactly if the items' conditions hold, and lead to the values of the last versions.
@@ -29,3 +31,11 @@ pub fn runs_begin_alike()
 pub fn limited_runs_are_runs()
     ensures { LimitedRun }
 {}
+
+/// A run where the results of its calls name the globals alone that the callees may change is one with the other globals as the calls
+/// found them.
+pub fn plain_runs_are_runs()
+    ensures { PlainRun }
+{
+    runs_keep_sorts();
+}

@@ -17,7 +17,7 @@ use flat_prog::FlatNext;
 use hy_val::{Expr, Sort};
 pub use laws::{
     items_say_what_commands_do, limited_runs_are_runs, ordered_blocks_are_there,
-    procedures_have_their_sorts, runs_begin_alike,
+    plain_runs_are_runs, procedures_have_their_sorts, runs_begin_alike,
 };
 pub use making::passive_of;
 use sqlite_items::Items;
