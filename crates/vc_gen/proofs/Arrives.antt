@@ -1,6 +1,7 @@
 -- The values by which a block is reached that fails pass exactly the edges and calls of the run.
+use Rattle.vc_gen.proofs.Prefixes.{prefix_then}
 use Rattle.std.proofs.Common.{◌≡◌, ℕ, ◌+◌, zero, suc, Bool, true, false, not, ◌&&◌, ◌||◌, List, [], ◌∷◌, ◌++◌, map, length, arith, sym, ◌∙◌, ap, refl, subst, inl, inr, append-nil, append_assoc}
-use Rattle.std.specs.Prelude.{Option, None, Some, nat_eq, if◌then◌else◌, slice_get, ◌⊎◌}
+use Rattle.std.specs.Prelude.{Option, None, Some, nat_eq, if◌then◌else◌, slice_get, ◌⊎◌, take}
 use Rattle.std.specs.Option.{option_and_then}
 use Rattle.std.proofs.lemmas.List.{map-append}
 use Rattle.hy_val.specs.declared.expr.Env.{Env}
@@ -15,7 +16,7 @@ use Rattle.flat_prog.specs.Shape.{place_at, place_of}
 use Rattle.flat_prog.specs.Ordering.{is_in, Onward}
 use Rattle.vc_gen.specs.Fold.{Edge, Given, Seen, seen, seen_at, reached, entered, others, closed, through, fan, out_next, out_of, passed, step, edges_next, edges_out, live_edges, Dead, One, choice_count, last_of}
 use Rattle.vc_gen.specs.Breaking.{breaks, breaks_seen, any_breaks}
-use Rattle.vc_gen.specs.Passages.{Passage, passages, passages_seen, all_passages, on_requests, on_results, blamed}
+use Rattle.vc_gen.specs.Passages.{Passage, passages, passages_seen, all_passages, on_requests, on_results, blamed, seen_values}
 use Rattle.vc_gen.proofs.Frames.{and_then_some}
 use Rattle.vc_gen.proofs.Edges.{dead_append, dead_out, one_reached, one_entered, one_dead, one_unreached, one_right, end_step}
 use Rattle.vc_gen.proofs.Used.{Used, pass_all_used}
@@ -24,9 +25,9 @@ use Rattle.vc_gen.proofs.Reach.{edges_off}
 use Rattle.vc_gen.proofs.Complete.{Each, Fine, length_picks, picks, pick_fan, step_is, some_pair, if_some, target_is, split_or}
 use Rattle.vc_gen.proofs.Arrive.{map_same, each_dull}
 use Rattle.vc_gen.proofs.Breaches.{break_place}
-use Rattle.vc_gen.proofs.Traces.{requests_append, results_append, all_passes, quiet_seen}
+use Rattle.vc_gen.proofs.Traces.{requests_append, results_append, all_passes, quiet_seen, seen_off}
 use Rattle.vc_gen.proofs.Failures.{dead_still, stop_all}
-use Rattle.vc_gen.proofs.Completes.{out_is, seen_is, pick_places}
+use Rattle.vc_gen.proofs.Completes.{out_is, seen_is, pick_places, seen_on}
 
 abbrev some : Result → Option Result
 some r = Some r
@@ -36,6 +37,7 @@ pub record Facts (flat : Limited) (q : FlatProc) (d : Env) (gs : List Given) (es
   pub edges_are : live_edges flat q d gs es ≡ edges
   pub calls_are : calls ≡ s.calls ++ on_requests (all_passages flat q (seen flat q d gs es))
   pub results_are : map blamed (map some s.results) ≡ map blamed (on_results (all_passages flat q (seen flat q d gs es)))
+  pub values_are : s.values ≡ take (length s.values) (seen_values (seen flat q d gs es))
   pub broke : any_breaks flat q (seen flat q d gs es) ≡ true
 
 pub record FoundLast (flat : Limited) (q : FlatProc) (d : Env) (P : Given → Type 0) (ns : List ℕ) (es : List Edge) (edges : List (ℕ × ℕ)) (s : State) (calls : List Request) : Type 0 where
@@ -50,6 +52,7 @@ pub record Last (flat : Limited) (q : FlatProc) (c : Given) (arrived : State) (c
   pub at : slice_get q.blocks c.number ≡ Some block
   pub breaks_is : breaks flat q block.cmds (alone arrived.env c.values c.results []) ≡ true
   pub asks : calls ≡ arrived.calls ++ on_requests (passages flat q block.cmds true (alone arrived.env c.values c.results []))
+  pub takes : arrived.values ≡ take (length arrived.values) c.values
   pub gets : map blamed (map some arrived.results) ≡ map blamed (on_results (passages flat q block.cmds true (alone arrived.env c.values c.results [])))
 
 or_right : (a b : Bool) → b ≡ true → (a || b) ≡ true
@@ -79,6 +82,9 @@ facts_first flat q d g gs es fs block s m calls u first rest one at vs rs is out
             ∙ ap (λ x. x ++ map some m.results) (p.1 ∙ append-nil (on_results ps)))
         ∙ map-append blamed (on_results ps) (map some m.results) ∙ ap (λ x. map blamed (on_results ps) ++ x) h.results_are
         ∙ sym (ap (map blamed) (ap on_results all ∙ results_append ps more) ∙ map-append blamed (on_results ps) (on_results more));
+      values_are =
+        prefix_then g.values m.values (seen_values (seen flat q d gs fs)) s.values (u.values_are ∙ ap (λ x. x ++ m.values) (sym vs)) h.values_are
+        ∙ ap (take (length s.values)) (sym (seen_on flat q d g gs es s.env one ∙ ap (λ x. g.values ++ seen_values (seen flat q d gs x)) is));
       broke = or_right (breaks_seen flat q (seen_at d g es)) (any_breaks flat q (seen flat q d gs (step flat q d g es))) (ap (λ x. any_breaks flat q (seen flat q d gs x)) is ∙ h.broke) }
 
 pub facts_off : (flat : Limited) (q : FlatProc) (d : Env) (g : Given) (gs : List Given) (es : List Edge) (edges : List (ℕ × ℕ)) (s : State) (calls : List Request) → reached g.number es ≡ false → Facts flat q d gs (step flat q d g es) edges s calls → Facts flat q d (g ∷ gs) es edges s calls
@@ -92,6 +98,7 @@ facts_off flat q d g gs es edges s calls off h =
         ∙ ap (λ r. r ++ live_edges flat q d gs (step flat q d g es)) (edges_off g.number (through flat q g (entered g.number d es)) (slice_get q.blocks g.number) g.choices) ∙ h.edges_are;
       calls_are = h.calls_are ∙ ap (λ r. s.calls ++ r) (sym (requests_append ps more ∙ ap (λ r. r ++ on_requests more) quiet.0));
       results_are = h.results_are ∙ ap (map blamed) (sym (results_append ps more ∙ ap (λ r. r ++ on_results more) quiet.1));
+      values_are = h.values_are ∙ ap (take (length s.values)) (sym (seen_off flat q d g gs es off));
       broke = or_right (breaks_seen flat q (seen_at d g es)) (any_breaks flat q (seen flat q d gs (step flat q d g es))) h.broke }
 
 pub facts_last : (flat : Limited) (q : FlatProc) (d : Env) (c : Given) (gs : List Given) (es : List Edge) (s : State) (calls : List Request) → One es (Some c.number) s.env → Last flat q c s calls → Facts flat q d (c ∷ gs) es [] s calls
@@ -123,6 +130,9 @@ facts_last flat q d c gs es s calls one l =
       edges_are = ap (λ x. x ++ live_edges flat q d gs (step flat q d c es)) out ∙ ap (live_edges flat q d gs) is ∙ still.0;
       calls_are = l.asks ∙ ap (λ x. s.calls ++ x) (sym (ap on_requests all ∙ requests_append ps more ∙ ap (λ x. on_requests ps ++ x) still.1.0 ∙ append-nil (on_requests ps)));
       results_are = l.gets ∙ ap (map blamed) (sym (ap on_results all ∙ results_append ps more ∙ ap (λ x. on_results ps ++ x) still.1.1 ∙ append-nil (on_results ps)));
+      values_are =
+        l.takes
+        ∙ ap (take (length s.values)) (sym (append-nil c.values) ∙ ap (λ x. c.values ++ x) (sym still.3) ∙ sym (seen_on flat q d c gs es s.env one ∙ ap (λ x. c.values ++ seen_values (seen flat q d gs x)) is));
       broke = ap (λ x. x || any_breaks flat q (seen flat q d gs (step flat q d c es))) on }
 
 abbrev Rest : Limited → FlatProc → Env → (Given → Type 0) → List ℕ → Given → State → List Request → Type 0

@@ -1,4 +1,6 @@
 -- Start, blocks and end together.
+use Rattle.flat_prog.specs.Sites.{numbers_from}
+use Rattle.vc_gen.proofs.Numbers.{numbers_then}
 use Rattle.std.proofs.Common.{◌≡◌, ℕ, zero, suc, ◌+◌, ◌<◌, Bool, true, false, ◌&&◌, ◌||◌, List, [], ◌∷◌, ◌++◌, map, length, take, drop, arith, sym, ◌∙◌, ap, refl, subst, append-nil, append_assoc, length-append}
 use Rattle.std.specs.Prelude.{Option, None, Some, slice_get, IsTrue, IsSome}
 use Rattle.std.proofs.lemmas.List.{map-append}
@@ -14,7 +16,9 @@ use Rattle.flat_prog.specs.declared.proc.FlatProc.{FlatProc}
 use Rattle.passive_form.specs.Limited.{Limited}
 use Rattle.passive_form.specs.Local.{State, alone, sorted_as, start}
 use Rattle.flat_prog.specs.Local.{outs_of}
-use Rattle.vc_gen.specs.Passages.{all_passages}
+use Rattle.vc_gen.specs.declared.parts.FailTerm.{FailTerm}
+use Rattle.vc_gen.proofs.Fitness.{sorts_from}
+use Rattle.vc_gen.specs.Passages.{all_passages, all_places}
 use Rattle.vc_gen.specs.Fold.{Edge, Given, fold, seen, live_edges, ends, end_env}
 use Rattle.vc_gen.specs.Breaking.{any_breaks}
 use Rattle.vc_gen.specs.Alike.{Alike}
@@ -29,33 +33,34 @@ use Rattle.vc_gen.specs.declared.parts.Actuals.{Actuals}
 use Rattle.vc_gen.specs.declared.parts.Draft.{Draft}
 use Rattle.vc_gen.specs.declared.parts.Wait.{Wait}
 use Rattle.vc_gen.specs.declared.parts.EdgeTerm.{EdgeTerm}
-use Rattle.vc_gen.specs.Exact.{true_edges, SameCalls}
-use Rattle.vc_gen.specs.Standing.{Later, Plain, AreOf}
+use Rattle.vc_gen.specs.Exact.{true_edges, SameCalls, EdgesThere, true_sites}
+use Rattle.vc_gen.specs.Standing.{Later, Plain, AreOf, variables_in}
 use Rattle.vc_gen.specs.Items.{bool_sort, SiteMeans, made, chosen}
-use Rattle.vc_gen.specs.Emit.{Stands, ItemsReady, Step, terms_of, site_value, SitesThere}
+use Rattle.vc_gen.specs.Emit.{Stands, ItemsReady, Step, terms_of, site_value, SitesThere, FailsThere}
 use Rattle.vc_gen.specs.declared.parts.SiteTerm.{SiteTerm}
 use Rattle.vc_gen.specs.Signed.{SitesSigned}
 use Rattle.vc_gen.proofs.Signing.{signed_later, signed_both, start_signed}
 use Rattle.vc_gen.specs.Inputs.{sorts_of_block, sorts_of_blocks, givens_at}
-use Rattle.vc_gen.specs.Instance.{all_at, edge_at, edges_at, start_sorts, room, first_edge, Built}
+use Rattle.vc_gen.specs.Instance.{all_at, edge_at, edges_at, start_sorts, room, first_edge, Built, PartsThere}
 use Rattle.vc_gen.specs.Joins.{WaitOf, WaitsOf}
 use Rattle.vc_gen.specs.Edges.{env_at}
 use Rattle.vc_gen.specs.Entering.{met, met_env, EnterReady, Entered}
-use Rattle.vc_gen.specs.Fitting.{PassiveFits, block_sorts, blocks_sorts}
-use Rattle.vc_gen.specs.Flowing.{Stage, AllThere, WentSays, FlowReady, WentAll}
-use Rattle.vc_gen.specs.Whole.{IsLiteral, InstanceReady}
+use Rattle.vc_gen.specs.Fitting.{PassiveFits, block_sorts, blocks_sorts, SortsAre}
+use Rattle.vc_gen.specs.Flowing.{Stage, WentSays, FlowReady, WentAll}
+use Rattle.passive_form.specs.Laws.{AllThere}
+use Rattle.vc_gen.specs.Whole.{IsLiteral, InstanceReady, NewVariables}
 use Rattle.vc_gen.proofs.Growth.{later_then, sort_later, are_later, are_append, map_later}
-use Rattle.vc_gen.proofs.Joining.{sites_later, sites_stay, sites_there_append, fits_before, stands_then, reads_append, length_reads, sorts_left, sorts_right}
+use Rattle.vc_gen.proofs.Joining.{sites_later, sites_stay, sites_there_append, fits_before, stands_then, reads_append, length_reads, sorts_left, sorts_right, fails_stay, fails_there_append}
 use Rattle.vc_gen.proofs.Passes.{bit_later}
 use Rattle.vc_gen.proofs.Fanning.{edges_later}
 use Rattle.vc_gen.proofs.Arriving.{met_ends, met_end_env, all_there}
 use Rattle.vc_gen.proofs.Stepping.{vals_at, meant_at}
 use Rattle.vc_gen.proofs.Outward.{are_terms}
-use Rattle.vc_gen.proofs.Exacting.{marks_later}
+use Rattle.vc_gen.proofs.Exacting.{marks_later, marks_stay, placed_later}
 use Rattle.vc_gen.proofs.Opening.{start_chosen, start_quiet, start_sites, start_begins, outs_are}
 
 abbrev pub opened : Actuals → ℕ → ℕ → ℕ → Draft
-opened actuals lit1 lit0 k = record { versions = actuals.globals ++ actuals.args; cond = lit1; fails = lit0; next = k; sites = []; asserts = [] }
+opened actuals lit1 lit0 k = record { versions = actuals.globals ++ actuals.args; cond = lit1; fails = lit0; next = k; calls = 0; sites = []; asserts = [] }
 
 abbrev pub wait_from : List ℕ → PassiveStart → ℕ → Wait
 wait_from versions start live = record { target = Some 0; live = live; globals = terms_of versions start.globals; locals = terms_of versions start.locals }
@@ -70,7 +75,7 @@ pub record Begun (old n2 : List TermNode) (lit1 lit0 : ℕ) : Type 0 where
 pub literals : (old n1 n2 : List TermNode) (lit1 lit0 : ℕ) → Later old n1 → Plain old n1 → IsLiteral n1 lit1 true → Later n1 n2 → Plain n1 n2 → IsLiteral n2 lit0 false → Begun old n2 lit1 lit0
 literals old n1 n2 lit1 lit0 l p y l2 p2 z = record {
   later = later_then old n1 n2 l l2;
-  plain = record { below = λ k h. p2.below k (p.below k h); fit = λ a h. p2.fit a (p.fit a h) };
+  plain = record { below = λ k h. p2.below k (p.below k h); fit = λ a h. p2.fit a (p.fit a h); numbers = p2.numbers ∙ p.numbers };
   yes_is = record { sort = sort_later n1 n2 lit1 bool_sort l2 y.sort; means = λ a. bit_later n1 n2 a lit1 l2 y.sort ∙ y.means a };
   no_is = z }
 
@@ -119,6 +124,46 @@ pub record Parts (old n2 n3 n4 new : List TermNode) (p : Passive) (actuals : Act
 order_sorts : (flat : Limited) (q : FlatProc) (order : List ℕ) → blocks_sorts (passive_blocks flat q order) ≡ sorts_of_blocks flat q order
 order_sorts flat q [] = refl
 order_sorts flat q (n ∷ ns) = ap (λ r. sorts_of_block flat q n ++ r) (order_sorts flat q ns)
+
+names_in : (ins outs others : List Sort) → SortsAre (ins ++ (outs ++ others)) (from (length ins) outs) outs
+names_in ins outs others = sorts_from (ins ++ (outs ++ others)) ins outs others (length ins) refl refl
+
+no_means : (nodes : List TermNode) (a : ℕ → Value) (ss : List SiteTerm) → map (site_value a nodes) ss ≡ [] → ss ≡ []
+no_means nodes a [] h = refl
+no_means nodes a (s ∷ ss) h = cc
+
+pub variables_of_all : (old n2 n3 n4 new : List TermNode) (p : Passive) (actuals : Actuals) (k lit1 lit0 : ℕ) (e g : Draft) (edges : List EdgeTerm) (left : List Wait) (end : Wait) → Parts old n2 n3 n4 new p actuals k lit1 lit0 e g edges left end →
+    NewVariables old k new g.next
+variables_of_all old n2 n3 n4 new p actuals k lit1 lit0 e g edges left end h =
+    let s = h.step in
+    let stage3 = start_stage old n2 n3 p actuals k lit1 lit0 e h.ready h.begun s in
+    let stage4 = h.went.stage p.consts p.globals p.locals stage3 h.ready.fit.blocks in
+    let n = length (chosen p.start.items) in
+    let m = length (blocks_sorts p.blocks) in
+    record {
+      count = n + m;
+      numbers = h.plain.numbers ∙ numbers_then (variables_in old) (variables_in n3) (variables_in n4) k e.next n m (n + m) (s.variables ∙ ap (λ r. r ++ numbers_from k n) h.begun.plain.numbers) s.next h.went.numbers refl;
+      next_is = omega (arith, h.went.next, s.next);
+      below = h.plain.below g.next stage4.below }
+
+pub there_of : (flat : Limited) (q : FlatProc) (order : List ℕ) (old n2 n3 n4 new : List TermNode) (actuals : Actuals) (k lit1 lit0 : ℕ) (e g : Draft) (edges : List EdgeTerm) (left : List Wait) (end : Wait) →
+    Parts old n2 n3 n4 new (passive_of flat q order) actuals k lit1 lit0 e g edges left end →
+    PartsThere flat.globals q.outs new end.live g.fails (terms_of end.locals (from (length q.ins) q.outs)) end.globals edges g.asserts
+there_of flat q order old n2 n3 n4 new actuals k lit1 lit0 e g edges left end h =
+    let p = passive_of flat q order in
+    let s = h.step in
+    let stage3 = start_stage old n2 n3 p actuals k lit1 lit0 e h.ready h.begun s in
+    let stage4 = h.went.stage flat.consts flat.globals (variables_of q) stage3 h.ready.fit.blocks in
+    let l35 = later_then n3 n4 new h.went.later h.later in
+    let w = h.entered.are flat.globals (variables_of q) stage4.spare_of stage4.waits_of in
+    record {
+      ended_is = w.live;
+      fails_is = sort_later n4 new g.fails bool_sort h.later stage4.fails;
+      outs_are = are_terms new end.locals (variables_of q) (from (length q.ins) q.outs) q.outs w.locals (names_in q.ins q.outs q.locals);
+      globals_are = w.globals;
+      edges_are = subst (λ (es : List EdgeTerm). EdgesThere new es) (sym h.went.marks_are) (marks_stay n4 new h.went.marks h.later h.went.marks_there);
+      asserts_are = subst (λ (fs : List FailTerm). FailsThere new fs) (sym (h.went.asserts_are ∙ ap (λ r. r ++ h.went.asserts) s.asserts_behind))
+          (fails_there_append new s.asserts h.went.asserts (fails_stay n3 new s.asserts l35 s.asserts_there) (fails_stay n4 new h.went.asserts h.later h.went.asserts_there)) }
 
 pub built_of : (flat : Limited) (q : FlatProc) (order : List ℕ) (old n2 n3 n4 new : List TermNode) (actuals : Actuals) (k lit1 lit0 : ℕ) (e g : Draft) (edges : List EdgeTerm) (left : List Wait) (end : Wait) → AllThere flat q order →
     Parts old n2 n3 n4 new (passive_of flat q order) actuals k lit1 lit0 e g edges left end →
@@ -213,6 +258,14 @@ built_of flat q order old n2 n3 n4 new actuals k lit1 lit0 e g edges left end th
         (subst (λ (es : List Edge). SameCalls (map (site_value a n4) h.went.sites) (all_passages flat q (seen flat q (env a) (givens_at flat q a (k + length (start_sorts q q.kind)) order) es))) (first_is a)
         (subst (λ (i : ℕ). SameCalls (map (site_value a n4) h.went.sites) (all_passages flat q (seen flat q (env a) (givens_at flat q a i order) (edges_at a n3 (all_at a n3 cs) (first ∷ []))))) next_is
             (says.calls a (env a) f4)));
+      places_are = λ a f.
+        let f4 = fits_before a n4 new h.later f in
+        let f3 = fits_before a n3 n4 h.went.later f4 in
+        let said = s.says a (all_at a n3 cs) (vals_at a n3 e.versions) f3 (meant_at a n3 cs e.versions) in
+        let none : s.sites ≡ [] = no_means n3 a s.sites (said.sites_are ∙ start_sites flat q q.kind (all_at a n3 cs) (vals_at a n3 e.versions) (is_on (value a n2 lit1))) in
+        ap (true_sites a new) (h.went.sites_are ∙ ap (λ r. r ++ h.went.sites) (s.sites_behind ∙ none)) ∙ placed_later n4 new a h.went.sites h.later h.went.sites_there ∙ says.places a (env a) f4
+        ∙ ap (λ x. all_places flat q (seen flat q (env a) (givens_at flat q a x order) (edges_at a n3 (all_at a n3 cs) (first ∷ [])))) next_is
+        ∙ ap (λ x. all_places flat q (seen flat q (env a) (givens_at flat q a (k + length (start_sorts q q.kind)) order) x)) (first_is a);
       sites_there = subst (λ (ss : List SiteTerm). SitesThere new ss) (sym (h.went.sites_are ∙ ap (λ r. r ++ h.went.sites) s.sites_behind))
           (sites_there_append new s.sites h.went.sites (sites_stay n3 new s.sites l35 s.sites_there) (sites_stay n4 new h.went.sites h.later h.went.sites_there));
       signed = subst (λ (ss : List SiteTerm). SitesSigned flat new ss) (sym (h.went.sites_are ∙ ap (λ r. r ++ h.went.sites) s.sites_behind))

@@ -9,7 +9,7 @@ use Rattle.flat_prog.specs.declared.block.FlatNext.TheVariants.{Goto, Return}
 use Rattle.flat_prog.specs.declared.block.FlatBlock.{FlatBlock}
 use Rattle.flat_prog.specs.declared.proc.FlatProc.{FlatProc}
 use Rattle.passive_form.specs.Limited.{Limited}
-use Rattle.passive_form.specs.Local.{State, alone, walk, pass_all, cmds_of, is_target}
+use Rattle.passive_form.specs.Local.{State, alone, walk, pass_all, cmds_of, is_target, AllTaken}
 use Rattle.flat_prog.specs.Local.{Result, Request, edges_of}
 use Rattle.flat_prog.specs.Shape.{place_at, place_of}
 use Rattle.flat_prog.specs.Ordering.{is_in, Onward}
@@ -78,7 +78,7 @@ abbrev Rest : Limited → FlatProc → (Given → Type 0) → List ℕ → State
 Rest flat q P ns over = (b : ℕ) (path places : List ℕ) (s : State) → is_in b ns ≡ true → Ending flat q b path places s over → Planned flat q P ns b path places s over
 
 last_here : (flat : Limited) (q : FlatProc) (P : Given → Type 0) → Fine flat q P → (n : ℕ) (ns : List ℕ) (s over : State) (block : FlatBlock) →
-    slice_get q.blocks n ≡ Some block → pass_all flat q block.cmds s ≡ Some over → block.next ≡ Return → over.results ≡ [] → Planned flat q P (n ∷ ns) n [] [] s over
+    slice_get q.blocks n ≡ Some block → pass_all flat q block.cmds s ≡ Some over → block.next ≡ Return → AllTaken over → Planned flat q P (n ∷ ns) n [] [] s over
 last_here flat q P ok n ns s over block at passes next taken =
     let u = pass_all_used flat q block.cmds s over passes in
     let g : Given = record { number = n; values = u.values; results = u.results; choices = [] } in
@@ -105,7 +105,7 @@ last_here flat q P ok n ns s over block at passes next taken =
         let still = end_still flat q d os fs over.env end in
         let step_to : step flat q d o es ≡ fs = step_is flat q d o es s.env block over.env u.calls one2 at2 does ∙ ap (λ x. others o.number es ++ out_next x true over.env o.choices) next in
         let rest : Facts flat q d os fs [] over over = record {
-            edges_are = still.0; calls_are = sym (append-nil over.calls) ∙ ap (λ x. over.calls ++ x) (sym still.1.0); results_are = ap (map some) taken ∙ sym still.1.1 } in
+            edges_are = still.0; calls_are = sym (append-nil over.calls) ∙ ap (λ x. over.calls ++ x) (sym still.1.0); results_are = ap (map some) taken.1 ∙ sym still.1.1; values_are = taken.0 ∙ sym still.3 } in
         (subst (λ x. One (fold flat q d os x) None over.env) (sym step_to) (end_fold flat q d os fs over.env end),
          facts_first flat q d o os es fs block s over over u [] [] one2 at2 w r step_to (ap (λ x. edges_next o.number x true over.env o.choices) next) rest)
 
@@ -160,7 +160,7 @@ here : (flat : Limited) (q : FlatProc) (P : Given → Type 0) → Fine flat q P 
 here flat q P ok n ns [] [] s over rest on h =
     let p = some_pair (slice_get q.blocks n) (Some h.last) s h.arrived h.walks in
     let same : s ≡ h.arrived = ap (λ x. x.1) p in
-    last_here flat q P ok n ns s over h.last (ap (λ x. x.0) p) (ap (pass_all flat q h.last.cmds) same ∙ h.passes) h.returns h.taken.1
+    last_here flat q P ok n ns s over h.last (ap (λ x. x.0) p) (ap (pass_all flat q h.last.cmds) same ∙ h.passes) h.returns h.taken
 here flat q P ok n ns [] (place ∷ places) s over rest on h = let w = h.walks in cc
 here flat q P ok n ns (t ∷ path) [] s over rest on h = let w = h.walks in cc
 here flat q P ok n ns (t ∷ path) (place ∷ places) s over rest on h =

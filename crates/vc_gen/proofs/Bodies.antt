@@ -1,4 +1,6 @@
 -- A block becomes terms: from the edges that lead in to those that are left.
+use Rattle.flat_prog.specs.Sites.{numbers_from}
+use Rattle.vc_gen.proofs.Numbers.{numbers_then}
 use Rattle.std.proofs.Common.{◌≡◌, ℕ, zero, suc, ◌+◌, ◌-◌, ◌<◌, ◌≤◌, Bool, true, false, not, ◌&&◌, ◌||◌, List, [], ◌∷◌, ◌++◌, map, length, take, drop, replicate, arith, sym, ◌∙◌, ap, refl, subst, append-nil, append_assoc, length-append}
 use Rattle.std.specs.Prelude.{Option, None, Some, slice_get, slice_index, slice_index_or, if◌then◌else◌, IsTrue, IsSome}
 use Rattle.std.proofs.lemmas.List.{map-append}
@@ -18,7 +20,7 @@ use Rattle.passive_form.specs.Local.{State, alone, sorted_as, cmds_of}
 use Rattle.flat_prog.specs.Local.{Result}
 use Rattle.vc_gen.specs.Fold.{Edge, Given, Seen, seen_at, reached, entered, others, out_next, step, choice_count}
 use Rattle.vc_gen.specs.Breaking.{breaks, breaks_seen}
-use Rattle.vc_gen.specs.Passages.{Passage, passages, passages_seen, targets_on}
+use Rattle.vc_gen.specs.Passages.{Passage, passages, passages_seen, targets_on, places_from}
 use Rattle.vc_gen.proofs.Marks.{out_targets}
 use Rattle.vc_gen.specs.Alike.{Alike}
 use Rattle.vc_gen.specs.Emit.{SitesOf, Stands, ItemsReady, Step, terms_of, site_value}
@@ -33,7 +35,7 @@ use Rattle.vc_gen.specs.declared.parts.Draft.{Draft}
 use Rattle.vc_gen.specs.declared.parts.Wait.{Wait}
 use Rattle.vc_gen.specs.declared.parts.EdgeTerm.{EdgeTerm}
 use Rattle.vc_gen.specs.Exact.{edge_terms, EdgesThere, SameCalls}
-use Rattle.vc_gen.specs.Standing.{Later, Plain, AreOf}
+use Rattle.vc_gen.specs.Standing.{Later, Plain, AreOf, variables_in}
 use Rattle.vc_gen.specs.Items.{bool_sort, SiteMeans, made, chosen, inputs, fails_in, sites_in}
 use Rattle.vc_gen.specs.Inputs.{values_in, results_in, block_at, items_at, choices_at, given_at}
 use Rattle.vc_gen.specs.Instance.{all_at, edge_at, edges_at}
@@ -43,7 +45,7 @@ use Rattle.vc_gen.specs.Entering.{met, met_env, kept, EnterReady, Entered}
 use Rattle.vc_gen.specs.Fitting.{BlockFits, block_sorts}
 use Rattle.vc_gen.specs.Flowing.{LeftBy, Stage, BlockReady, BlockSays, BlockDone}
 use Rattle.vc_gen.proofs.Growth.{later_then, value_later, sort_later, sort_within, are_later, are_append, are_count, map_later}
-use Rattle.vc_gen.proofs.Joining.{fits_before, stands_then, sites_later, sites_stay, reads_append, length_reads, sorts_left, sorts_right}
+use Rattle.vc_gen.proofs.Joining.{fits_before, stands_then, sites_later, sites_stay, reads_append, length_reads, sorts_left, sorts_right, fails_stay, fails_there_append}
 use Rattle.vc_gen.proofs.Passes.{bit_later}
 use Rattle.vc_gen.proofs.Calling.{span_values}
 use Rattle.vc_gen.proofs.Fanning.{edges_later, of_later, all_later, of_append}
@@ -52,7 +54,7 @@ use Rattle.vc_gen.proofs.Stepping.{vals_at, meant_at, values_read, results_read,
 use Rattle.vc_gen.proofs.Failing.{broken, fails_or, off_broken}
 use Rattle.vc_gen.proofs.Breakages.{breaks_is}
 use Rattle.vc_gen.proofs.Outward.{are_terms}
-use Rattle.vc_gen.proofs.Exacting.{edges_there, marks_are, off_calls, on_calls}
+use Rattle.vc_gen.proofs.Exacting.{edges_there, marks_are, off_calls, on_calls, placed_same}
 
 -- ---- the fail bit of a block
 
@@ -170,7 +172,7 @@ enter_ready csorts gsorts lsorts nodes cs spare d waits h = record { gs = gsorts
 
 -- the draft at the start of a block
 abbrev pub at_entry : Draft → Wait → Draft
-at_entry d entry = record d { versions = entry.globals ++ entry.locals; cond = entry.live }
+at_entry d entry = record d { versions = entry.globals ++ entry.locals; cond = entry.live; calls = 0 }
 
 entry_stands : (csorts gsorts lsorts : List Sort) (old mid : List TermNode) (cs : List ℕ) (spare : Wait) (d : Draft) (waits : List Wait) (goal : Option ℕ) (entry : Wait) →
     Stage csorts gsorts lsorts old cs spare d waits → Later old mid → Plain old mid → Entered old spare waits goal mid entry → Stands mid cs (at_entry d entry) csorts (gsorts ++ lsorts)
@@ -278,6 +280,9 @@ module _ (cs : List ℕ) (spare : Wait) (old mid low new : List TermNode) (d e g
               ∙ ap (λ x. out_next b.next (is_on (value a low e.cond)) (env_at a low consts (terms_of e.versions leave.globals) (terms_of e.versions leave.locals)) (picked a e.next x)) count
               ∙ ap (λ x. out_next b.next (is_on (value a low e.cond)) (env_at a low consts (terms_of e.versions leave.globals) (terms_of e.versions leave.locals)) (picked a x (choices_at q m))) place in
           subst (λ (x : List Edge). Alike (others m (es a) ++ x) (step flat q dead (given_at flat q a d.next m) (es a))) (sym (ap (λ x. edges_at a new x o.more) c_low ∙ out_is)) law in
+      let calls_same : (a : ℕ → Value) (dead : Env) → IsTrue (fits a new) → SameCalls (map (site_value a new) s.sites) (passages_seen flat q (seen_at dead (given_at flat q a d.next m) (es a))) = λ a dead f.
+          subst (λ (ms : List SiteMeans). SameCalls ms (passages_seen flat q (seen_at dead (given_at flat q a d.next m) (es a)))) (sym (sites_later low new a s.sites o.later s.sites_there))
+              (block_calls flat q cs m b mid low (at_entry d entry) e entry.globals entry.locals flat.consts at there refl c_mid w.globals w.locals block.number block.items (ap (λ (x : PassiveBlock). x.items) is) s a dead (es a) (fits_before a low new o.later f) (on_is a f) (env_is a dead f)) in
       record {
         alike = λ a dead f.
           let all : edges_at a new (all_at a new cs) left ≡ others m (es a) ++ edges_at a new (all_at a new cs) o.more =
@@ -291,9 +296,8 @@ module _ (cs : List ℕ) (spare : Wait) (old mid low new : List TermNode) (d e g
           ∙ ap (λ x. targets_on x 0 (edges_at a new (all_at a new cs) out)) number_is
           ∙ ap (λ x. targets_on m 0 (edges_at a new (all_at a new cs) x)) o.waits_are
           ∙ out_targets flat q dead (given_at flat q a d.next m) (es a) (edges_at a new (all_at a new cs) o.more) b at (alike_both a dead f);
-        calls = λ a dead f.
-          subst (λ (ms : List SiteMeans). SameCalls ms (passages_seen flat q (seen_at dead (given_at flat q a d.next m) (es a)))) (sym (sites_later low new a s.sites o.later s.sites_there))
-              (block_calls flat q cs m b mid low (at_entry d entry) e entry.globals entry.locals flat.consts at there refl c_mid w.globals w.locals block.number block.items (ap (λ (x : PassiveBlock). x.items) is) s a dead (es a) (fits_before a low new o.later f) (on_is a f) (env_is a dead f));
+        calls = calls_same;
+        places = λ a dead f. placed_same a new m 0 s.sites (passages_seen flat q (seen_at dead (given_at flat q a d.next m) (es a))) (s.numbered ∙ ap (λ x. places_from x 0 (length s.sites)) number_is) (calls_same a dead f);
         signed = signed_later flat low new s.sites o.later (cmds_signed flat q (entry_cur flat q) 0 (entry_count flat q) b.cmds low s.sites (subst (λ (x : PassiveBlock). SitesOf low x.items s.sites) is s.sites_of));
         fails = λ a dead f.
           let f1 = fits_before a low new o.later f in
@@ -320,7 +324,11 @@ module _ (cs : List ℕ) (spare : Wait) (old mid low new : List TermNode) (d e g
         sites = s.sites;
         sites_are = ap (λ (x : Draft). x.sites) o.frame ∙ s.sites_behind;
         sites_there = sites_stay low new s.sites o.later s.sites_there;
+        asserts = s.asserts;
+        asserts_are = ap (λ (x : Draft). x.asserts) o.frame ∙ s.asserts_behind;
+        asserts_there = fails_stay low new s.asserts o.later s.asserts_there;
         next = omega (arith, o.next_is, s.next, total);
+        numbers = numbers_then (variables_in old) (variables_in low) (variables_in new) d.next e.next c k (length (block_sorts block)) (s.variables ∙ ap (λ r. r ++ numbers_from d.next c) p1.numbers) s.next o.numbers total;
         fit = λ a f h.
           let split : reads a d.next (length (block_sorts block)) ≡ reads a d.next c ++ reads a e.next k =
               ap (reads a d.next) total ∙ reads_append a d.next c k ∙ ap (λ x. reads a d.next c ++ reads a x k) (sym s.next) in

@@ -1,4 +1,5 @@
 -- A call becomes terms.
+use Rattle.flat_prog.specs.Sites.{numbers_from}
 use Rattle.std.proofs.Common.{◌≡◌, ℕ, zero, suc, ◌+◌, ◌-◌, ◌<◌, ◌≤◌, Bool, true, false, not, ◌&&◌, ◌||◌, List, [], ◌∷◌, ◌++◌, map, length, take, arith, sym, ◌∙◌, ap, refl, subst, append-nil, append_assoc, length-append}
 use Rattle.std.specs.Prelude.{Option, None, Some, slice_get, slice_index, slice_index_or, IsTrue, IsSome}
 use Rattle.std.proofs.lemmas.List.{map-append, length-map}
@@ -23,7 +24,7 @@ use Rattle.hy_val.proofs.Lawful.{keep_sorts}
 use Rattle.hy_term.proofs.Typing.{value_has_sort}
 use Rattle.vc_gen.specs.declared.parts.Draft.{Draft}
 use Rattle.vc_gen.specs.declared.parts.SiteTerm.{SiteTerm}
-use Rattle.vc_gen.specs.Standing.{Later, Plain, AreOf}
+use Rattle.vc_gen.specs.Standing.{Later, Plain, AreOf, variables_in}
 use Rattle.vc_gen.specs.Translate.{ReadsFit, Says as ExprSays}
 use Rattle.vc_gen.specs.Items.{bool_sort, ReadsIn, AllRead, AllThere, AreSorts, SiteMeans, chosen, made}
 use Rattle.vc_gen.specs.Emit.{AllBefore, AllBehind, AreVariables, row_of, Stands, ItemReady, ArgsReady, ArgsSay, Meant, Fresh, IsNot, Passed, terms_of, site_value, Says, Step}
@@ -33,7 +34,7 @@ use Rattle.vc_gen.proofs.Joining.{variables_stay, take_grown, meant_back, and_fi
 use Rattle.vc_gen.proofs.Passes.{bit_later}
 use Rattle.vc_gen.proofs.Steps.{reads_fit, expr_value, sort_is}
 use Rattle.vc_gen.proofs.Zeros.{cancel}
-use Rattle.vc_gen.proofs.Pushing.{fresh_then}
+use Rattle.vc_gen.proofs.Pushing.{fresh_then, fresh_numbers}
 
 -- ---- arguments
 
@@ -202,15 +203,15 @@ call_fresh o m1 m2 new d e1 e2 e outs after bit ots gts f1 v1 f2 v2 f3 v3 =
       after_are = subst (λ (ts : List ℕ). AreOf new ts after) vs3 f3.are }
 
 module _ (cs : List ℕ) (block : ℕ) (old : List TermNode) (d : Draft) (p f : ℕ) (args : List (List ExprNode)) (before : List ℕ) (outs : List Sort) (changes : List Bool) (after : List Sort) where
-  pub step_site : (m1 m2 m3 new : List TermNode) (ats : List ℕ) (e : Draft) (bit : ℕ) (ots gts : List ℕ) (h t : ℕ) (g : Draft) (ss : List SiteTerm) → ItemReady old cs d (Site p f args before outs changes after) →
+  pub step_site : (m1 m2 m3 new : List TermNode) (ats : List ℕ) (e : Draft) (bit : ℕ) (ots gts : List ℕ) (h t : ℕ) (g : Draft) (ss : List SiteTerm) (n : ℕ) → ItemReady old cs d (Site p f args before outs changes after) →
       ArgsSay old cs d.versions args m1 ats → CallFresh m1 d outs after m2 e bit ots gts → Later m2 m3 → Plain m2 m3 → IsNot m2 m3 bit h → Later m3 new → Plain m3 new → Passed m3 e h bit new g t →
-      ss ≡ g.sites ++ record { proc = p; node = e.cond; first = d.next; failed = bit; args = ats; globals_before = terms_of d.versions before; outs = ots; changed = gts; globals_after = replaced changes (terms_of d.versions before) gts; fails = t } ∷ [] →
-      Step cs block old d (Site p f args before outs changes after ∷ []) new (record g { sites = ss })
-  step_site m1 m2 m3 new ats e bit ots gts h t g ss r say call l3 p3 b l4 p4 w is =
+      ss ≡ g.sites ++ record { block = block; call = g.calls; proc = p; node = e.cond; first = d.next; failed = bit; args = ats; globals_before = terms_of d.versions before; outs = ots; changed = gts; globals_after = replaced changes (terms_of d.versions before) gts; fails = t } ∷ [] → n ≡ g.calls + 1 →
+      Step cs block old d (Site p f args before outs changes after ∷ []) new (record g { sites = ss; calls = n })
+  step_site m1 m2 m3 new ats e bit ots gts h t g ss n r say call l3 p3 b l4 p4 w is more_calls =
       let st = r.stands in
       let own = bool_sort ∷ (outs ++ after) in
       let fresh = call.fresh in
-      let site : SiteTerm = record { proc = p; node = e.cond; first = d.next; failed = bit; args = ats; globals_before = terms_of d.versions before; outs = ots; changed = gts; globals_after = replaced changes (terms_of d.versions before) gts; fails = t } in
+      let site : SiteTerm = record { block = block; call = g.calls; proc = p; node = e.cond; first = d.next; failed = bit; args = ats; globals_before = terms_of d.versions before; outs = ots; changed = gts; globals_after = replaced changes (terms_of d.versions before) gts; fails = t } in
       let l12 = later_then old m1 m2 say.later fresh.later in
       let l24 = later_then m2 m3 new l3 l4 in
       let later = later_then old m2 new l12 l24 in
@@ -225,6 +226,7 @@ module _ (cs : List ℕ) (block : ℕ) (old : List TermNode) (d : Draft) (p f : 
       let g_next : g.next ≡ e.next = ap (λ (x : Draft). x.next) w.draft_is in
       let g_sites : g.sites ≡ e.sites = ap (λ (x : Draft). x.sites) w.draft_is in
       let g_asserts : g.asserts ≡ e.asserts = ap (λ (x : Draft). x.asserts) w.draft_is in
+      let same_calls : g.calls ≡ d.calls = ap (λ (x : Draft). x.calls) w.draft_is ∙ ap (λ (x : Draft). x.calls) fresh.draft_is in
       let row = bit ∷ (ots ++ gts) in
       let vs : g.versions ≡ d.versions ++ row = g_versions ∙ call.versions in
       let row_is : fresh.more ≡ row = cancel d.versions fresh.more row (sym (ap (λ (x : Draft). x.versions) fresh.draft_is) ∙ call.versions) in
@@ -259,6 +261,12 @@ module _ (cs : List ℕ) (block : ℕ) (old : List TermNode) (d : Draft) (p f : 
           changed = (after, are_later m2 new gts after l24 call.after_are);
           after = replaced_are new changes (terms_of d.versions before) gts b_are.0 after (are_later old new (terms_of d.versions before) b_are.0 later b_are.1) (are_later m2 new gts after l24 call.after_are);
           fails = w.sort;
+          failed = sort_later m2 new bit bool_sort l24 call.bit_is;
+          fails_is = λ a fit.
+            let f3 = fits_before a m3 new l4 fit in
+            let c3 : sort_at m3 e.cond ≡ Some bool_sort = ap (sort_at m3) e_cond ∙ sort_later old m3 d.cond bool_sort l13 st.cond in
+            w.here a f3 ∙ ap (λ x. x && is_on (value a m3 bit)) (sym (bit_later m3 new a e.cond l4 c3))
+            ∙ ap (λ x. is_on (value a new e.cond) && x) (sym (bit_later m3 new a bit l4 (sort_later m2 m3 bit bool_sort l3 call.bit_is)));
           variables = (own, variables_stay m2 new row d.next own l24 row_vars);
           args_before = subst (λ (i : ℕ). AllBefore i ats) (sym bit_at) (are_before m1 ats say.sorts say.are);
           globals_before = subst (λ (i : ℕ). AllBefore i (terms_of d.versions before)) (sym bit_at) (are_before m1 (terms_of d.versions before) b_are.0 (are_later old m1 (terms_of d.versions before) b_are.0 say.later b_are.1));
@@ -267,6 +275,8 @@ module _ (cs : List ℕ) (block : ℕ) (old : List TermNode) (d : Draft) (p f : 
           after_is = (changes, refl) }, tt);
         sites_of = (record { proc_is = refl; outs_are = are_later m2 new ots outs l24 call.outs_are; changed_are = are_later m2 new gts after l24 call.after_are; after_is = refl }, tt);
         sites_behind = is ∙ ap (λ x. x ++ site ∷ []) (g_sites ∙ e_sites);
+        numbered = ap {B = List (ℕ × ℕ)} (λ (i : ℕ). (block, i) ∷ []) same_calls; calls = omega (arith, more_calls, same_calls);
+        variables = p4.numbers ∙ p3.numbers ∙ fresh_numbers m1 m2 d e own fresh ∙ ap (λ r. r ++ numbers_from d.next (length own)) say.plain.numbers ∙ ap (λ i. variables_in old ++ numbers_from d.next i) count;
         asserts = []; asserts_there = tt; asserts_behind = g_asserts ∙ e_asserts ∙ sym (append-nil d.asserts);
         says = λ a consts vals fit m.
           let f3 = fits_before a m3 new l4 fit in

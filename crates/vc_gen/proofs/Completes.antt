@@ -10,19 +10,19 @@ use Rattle.flat_prog.specs.declared.block.FlatNext.TheVariants.{Goto, Return}
 use Rattle.flat_prog.specs.declared.block.FlatBlock.{FlatBlock}
 use Rattle.flat_prog.specs.declared.proc.FlatProc.{FlatProc}
 use Rattle.passive_form.specs.Limited.{Limited}
-use Rattle.passive_form.specs.Local.{State, alone, walk, pass_all, cmds_of, is_target}
+use Rattle.passive_form.specs.Local.{State, alone, walk, pass_all, cmds_of, is_target, AllTaken}
 use Rattle.flat_prog.specs.Local.{Result, Request, edges_of}
 use Rattle.flat_prog.specs.Shape.{place_at, place_of}
 use Rattle.flat_prog.specs.Ordering.{is_in, Onward}
 use Rattle.vc_gen.specs.Fold.{Edge, Given, Seen, seen, seen_at, reached, entered, others, closed, through, fan, out_next, step, fold, places_on, edges_next, edges_out, live_edges, Dead, One, choice_count}
-use Rattle.vc_gen.specs.Passages.{Passage, passages, passages_seen, all_passages, on_requests, on_results}
+use Rattle.vc_gen.specs.Passages.{Passage, passages, passages_seen, all_passages, on_requests, on_results, seen_values}
 use Rattle.vc_gen.proofs.Frames.{and_then_some}
 use Rattle.vc_gen.proofs.Edges.{one_reached, one_entered, one_dead, one_unreached, one_right, end_step}
 use Rattle.vc_gen.proofs.Used.{Used, pass_all_used}
 use Rattle.vc_gen.proofs.Sound.{number_is}
 use Rattle.vc_gen.proofs.Reach.{edges_off, dead_places}
 use Rattle.vc_gen.proofs.Complete.{never, dead_never, picks, pick_fan, length_picks, step_is, Each, Fine, Found, all_dull, Ending, some_pair, if_some, target_is, split_or}
-use Rattle.vc_gen.proofs.Traces.{requests_append, results_append, all_passes, Quiet, quiet_seen, Still, end_still}
+use Rattle.vc_gen.proofs.Traces.{requests_append, results_append, all_passes, Quiet, quiet_seen, Still, end_still, seen_off}
 
 abbrev some : Result → Option Result
 some r = Some r
@@ -32,6 +32,7 @@ pub record Facts (flat : Limited) (q : FlatProc) (d : Env) (gs : List Given) (es
   pub edges_are : live_edges flat q d gs es ≡ edges
   pub calls_are : over.calls ≡ s.calls ++ on_requests (all_passages flat q (seen flat q d gs es))
   pub results_are : map some s.results ≡ on_results (all_passages flat q (seen flat q d gs es))
+  pub values_are : s.values ≡ seen_values (seen flat q d gs es)
 
 pub record FoundAll (flat : Limited) (q : FlatProc) (d : Env) (P : Given → Type 0) (ns : List ℕ) (es : List Edge) (edges : List (ℕ × ℕ)) (s over : State) : Type 0 where
   pub givens : List Given
@@ -57,6 +58,12 @@ seen_is flat q d g es env block one at =
     ∙ ap (λ x. passages flat q (cmds_of (slice_get q.blocks g.number)) x (alone env g.values g.results [])) (one_reached g.number es env one)
     ∙ ap (λ x. passages flat q (cmds_of x) true (alone env g.values g.results [])) at
 
+-- the values of a block that is reached
+pub seen_on : (flat : Limited) (q : FlatProc) (d : Env) (g : Given) (gs : List Given) (es : List Edge) (env : Env) → One es (Some g.number) env →
+    seen_values (seen flat q d (g ∷ gs) es) ≡ g.values ++ seen_values (seen flat q d gs (step flat q d g es))
+seen_on flat q d g gs es env one =
+    ap (λ b. if b then g.values ++ seen_values (seen flat q d gs (step flat q d g es)) else seen_values (seen flat q d gs (step flat q d g es))) (one_reached g.number es env one)
+
 -- a passed block first
 pub facts_first : (flat : Limited) (q : FlatProc) (d : Env) (g : Given) (gs : List Given) (es fs : List Edge) (block : FlatBlock) (s m over : State) (u : Used (pass_all flat q block.cmds) s m) (first rest : List (ℕ × ℕ)) →
     One es (Some g.number) s.env → slice_get q.blocks g.number ≡ Some block → g.values ≡ u.values → g.results ≡ u.results → step flat q d g es ≡ fs → edges_next g.number block.next true m.env g.choices ≡ first →
@@ -78,7 +85,9 @@ facts_first flat q d g gs es fs block s m over u first rest one at vs rs is out 
         ∙ ap (λ x. s.calls ++ x) (sym (ap on_requests all ∙ requests_append ps more));
       results_are =
         ap (map some) u.results_are ∙ map-append some u.results m.results ∙ ap (λ x. map some x ++ map some m.results) (sym rs)
-        ∙ ap (λ x. x ++ map some m.results) (p.1 ∙ append-nil (on_results ps)) ∙ ap (λ x. on_results ps ++ x) h.results_are ∙ sym (ap on_results all ∙ results_append ps more) }
+        ∙ ap (λ x. x ++ map some m.results) (p.1 ∙ append-nil (on_results ps)) ∙ ap (λ x. on_results ps ++ x) h.results_are ∙ sym (ap on_results all ∙ results_append ps more);
+      values_are =
+        u.values_are ∙ ap (λ x. x ++ m.values) (sym vs) ∙ ap (λ x. g.values ++ x) h.values_are ∙ sym (seen_on flat q d g gs es s.env one ∙ ap (λ x. g.values ++ seen_values (seen flat q d gs x)) is) }
 
 -- a block that isn't passed first
 pub facts_off : (flat : Limited) (q : FlatProc) (d : Env) (g : Given) (gs : List Given) (es : List Edge) (edges : List (ℕ × ℕ)) (s over : State) → reached g.number es ≡ false → Facts flat q d gs (step flat q d g es) edges s over → Facts flat q d (g ∷ gs) es edges s over
@@ -91,7 +100,8 @@ facts_off flat q d g gs es edges s over off h =
         ap (λ r. edges_out g.number (through flat q g (entered g.number d es)) r (slice_get q.blocks g.number) g.choices ++ live_edges flat q d gs (step flat q d g es)) off
         ∙ ap (λ r. r ++ live_edges flat q d gs (step flat q d g es)) (edges_off g.number (through flat q g (entered g.number d es)) (slice_get q.blocks g.number) g.choices) ∙ h.edges_are;
       calls_are = h.calls_are ∙ ap (λ r. s.calls ++ r) (sym (requests_append ps more ∙ ap (λ r. r ++ on_requests more) quiet.0));
-      results_are = h.results_are ∙ sym (results_append ps more ∙ ap (λ r. r ++ on_results more) quiet.1) }
+      results_are = h.results_are ∙ sym (results_append ps more ∙ ap (λ r. r ++ on_results more) quiet.1);
+      values_are = h.values_are ∙ sym (seen_off flat q d g gs es off) }
 
 -- one place is passed
 never_places : (n p : ℕ) (env : Env) (ts : List ℕ) → places_on n p (fan false env ts (never ts)) ≡ []
@@ -114,7 +124,7 @@ put_first flat q d P g ns es fs edges edges1 s m over good is f h = record {
   one = subst (λ x. One (fold flat q d f.givens x) None over.env) (sym is) f.one; facts = h }
 
 last_here : (flat : Limited) (q : FlatProc) (d : Env) (dull : ℕ → Given) → ((n : ℕ) → (dull n).number ≡ n) → (P : Given → Type 0) → ((n : ℕ) → P (dull n)) → Fine flat q P → (n : ℕ) (ns : List ℕ) (es : List Edge) (s over : State) (block : FlatBlock) →
-    One es (Some n) s.env → slice_get q.blocks n ≡ Some block → pass_all flat q block.cmds s ≡ Some over → block.next ≡ Return → over.results ≡ [] → FoundAll flat q d P (n ∷ ns) es [] s over
+    One es (Some n) s.env → slice_get q.blocks n ≡ Some block → pass_all flat q block.cmds s ≡ Some over → block.next ≡ Return → AllTaken over → FoundAll flat q d P (n ∷ ns) es [] s over
 last_here flat q d dull is P pd ok n ns es s over block one at passes next taken =
     let u = pass_all_used flat q block.cmds s over passes in
     let g : Given = record { number = n; values = u.values; results = u.results; choices = [] } in
@@ -124,7 +134,7 @@ last_here flat q d dull is P pd ok n ns es s over block one at passes next taken
     let still = end_still flat q d f.0 fs over.env end in
     let step_to : step flat q d g es ≡ fs = step_is flat q d g es s.env block over.env u.calls one at u.does ∙ ap (λ x. others n es ++ out_next x true over.env []) next in
     let rest : Facts flat q d f.0 fs [] over over = record {
-        edges_are = still.0; calls_are = sym (append-nil over.calls) ∙ ap (λ x. over.calls ++ x) (sym still.1.0); results_are = ap (map some) taken ∙ sym still.1.1 } in
+        edges_are = still.0; calls_are = sym (append-nil over.calls) ∙ ap (λ x. over.calls ++ x) (sym still.1.0); results_are = ap (map some) taken.1 ∙ sym still.1.1; values_are = taken.0 ∙ sym still.3 } in
     record {
       givens = g ∷ f.0; numbers = ap (λ x. n ∷ x) f.1; good = (ok n block s over u [] at (sym (ap choice_count next)), f.2);
       one = subst (λ x. One (fold flat q d f.0 x) None over.env) (sym step_to) f.3;
@@ -158,7 +168,7 @@ here : (flat : Limited) (q : FlatProc) (d : Env) (dull : ℕ → Given) → ((n 
 here flat q d dull is P pd ok n ns es [] [] s over rest on one h =
     let p = some_pair (slice_get q.blocks n) (Some h.last) s h.arrived h.walks in
     let same : s ≡ h.arrived = ap (λ x. x.1) p in
-    last_here flat q d dull is P pd ok n ns es s over h.last one (ap (λ x. x.0) p) (ap (pass_all flat q h.last.cmds) same ∙ h.passes) h.returns h.taken.1
+    last_here flat q d dull is P pd ok n ns es s over h.last one (ap (λ x. x.0) p) (ap (pass_all flat q h.last.cmds) same ∙ h.passes) h.returns h.taken
 here flat q d dull is P pd ok n ns es [] (place ∷ places) s over rest on one h = let w = h.walks in cc
 here flat q d dull is P pd ok n ns es (t ∷ path) [] s over rest on one h = let w = h.walks in cc
 here flat q d dull is P pd ok n ns es (t ∷ path) (place ∷ places) s over rest on one h =

@@ -1,6 +1,7 @@
 -- The assignments that make the end true are the runs that end.
+use Rattle.std.specs.Option.{option_and_then}
 use Rattle.std.proofs.Common.{◌≡◌, ℕ, zero, suc, ◌+◌, ◌-◌, ◌<◌, Bool, true, false, not, ◌&&◌, List, [], ◌∷◌, ◌++◌, map, length, take, drop, arith, sym, ◌∙◌, ap, refl, subst, inl, inr, append-nil, append_assoc, length-append}
-use Rattle.std.specs.Prelude.{Option, None, Some, nat_lt, nat_eq, if◌then◌else◌, IsTrue, IsSome, ◌⊎◌}
+use Rattle.std.specs.Prelude.{Option, None, Some, nat_lt, nat_eq, if◌then◌else◌, IsTrue, IsSome, ◌⊎◌, slice_get}
 use Rattle.std.proofs.lemmas.Bool.Decides.{nat_tests}
 use Rattle.hy_val.specs.Values.{at, is_on, zero_of}
 use Rattle.hy_val.specs.declared.sort.Sort.{Sort}
@@ -15,18 +16,18 @@ use Rattle.flat_prog.specs.declared.proc.FlatKind.TheVariants.{Source, Loop}
 use Rattle.flat_prog.specs.declared.block.FlatBlock.{FlatBlock}
 use Rattle.flat_prog.specs.declared.proc.FlatProc.{FlatProc}
 use Rattle.passive_form.specs.Limited.{Limited}
-use Rattle.passive_form.specs.Local.{State, alone, sorted_as, start, LocalEnds, AllTaken}
-use Rattle.flat_prog.specs.Local.{Result, Request, outs_of}
-use Rattle.flat_prog.specs.Shape.{exit_sort}
+use Rattle.passive_form.specs.Local.{State, alone, sorted_as, start, LocalEnds, AllTaken, walk, pass_all, cmds_of, is_target}
+use Rattle.flat_prog.specs.Local.{Result, Request, outs_of, edges_of}
+use Rattle.flat_prog.specs.Shape.{exit_sort, place_at}
 use Rattle.vc_gen.specs.Fold.{Edge, Given, fold, seen, live_edges, ends, end_env, One, Dead}
 use Rattle.flat_prog.specs.Ordering.{is_in, Onward}
 use Rattle.vc_gen.specs.Alike.{Alike}
 use Rattle.vc_gen.proofs.Alikes.{alike_ends, alike_end_env}
 use Rattle.vc_gen.proofs.Edges.{one_ends, one_end_env}
-use Rattle.vc_gen.proofs.Frames.{choose_some}
+use Rattle.vc_gen.proofs.Frames.{choose_some, and_then_some}
 use Rattle.vc_gen.proofs.Traces.{traced}
-use Rattle.vc_gen.specs.Passages.{Passage, all_passages, on_requests, on_results}
-use Rattle.vc_gen.proofs.Complete.{Each, Ending}
+use Rattle.vc_gen.specs.Passages.{Passage, all_passages, on_requests, on_results, path_places, along}
+use Rattle.vc_gen.proofs.Complete.{Each, Ending, if_some, target_is}
 use Rattle.vc_gen.proofs.Completes.{completed}
 use Rattle.vc_gen.specs.Standing.{Later, AreOf}
 use Rattle.vc_gen.specs.declared.parts.Wait.{Wait}
@@ -37,7 +38,7 @@ use Rattle.vc_gen.specs.Emit.{site_value}
 use Rattle.vc_gen.specs.Exact.{request_of, result_of, SameCalls, asked, given_back}
 use Rattle.vc_gen.specs.Inputs.{items_at, sorts_of_blocks, givens_at, Shaped}
 use Rattle.vc_gen.specs.declared.parts.Actuals.{Actuals}
-use Rattle.vc_gen.specs.Instance.{all_at, edges_at, start_sorts, room, first_edge, Built, EndsFrom, EndsSound, Answers, EndsComplete}
+use Rattle.vc_gen.specs.Instance.{all_at, edges_at, start_sorts, room, first_edge, Built, EndsFrom, EndsSound, Answers, EndsComplete, EndsPlaced}
 use Rattle.vc_gen.proofs.Growth.{map_later}
 use Rattle.vc_gen.proofs.Joining.{sorts_both}
 use Rattle.vc_gen.proofs.Shapes.{shaped_used, length_have}
@@ -76,13 +77,40 @@ some_lists (x ∷ xs) (y ∷ ys) h =
     let t : map (λ r. Some r) xs ≡ map (λ r. Some r) ys = cc in
     ap (λ z. z ∷ xs) e ∙ ap (λ z. y ∷ z) (some_lists xs ys t)
 
+-- the edges of a walk say its path
+pub same_walk : (flat : Limited) (q : FlatProc) (b : ℕ) (path places path' places' : List ℕ) (s s' : State) (o o' : Option FlatBlock) (t t' : State) →
+    walk flat q (b ∷ path) places s ≡ Some (o, t) → walk flat q (b ∷ path') places' s' ≡ Some (o', t') → edges_of (b ∷ path) places ≡ edges_of (b ∷ path') places' → path ≡ path'
+same_walk flat q b [] [] [] [] s s' o o' t t' h k e = refl
+same_walk flat q b [] [] [] (p ∷ places') s s' o o' t t' h k e = cc
+same_walk flat q b [] [] (c ∷ path') [] s s' o o' t t' h k e = cc
+same_walk flat q b [] [] (c ∷ path') (p ∷ places') s s' o o' t t' h k e = cc
+same_walk flat q b [] (p ∷ places) path' places' s s' o o' t t' h k e = cc
+same_walk flat q b (c ∷ path) [] path' places' s s' o o' t t' h k e = cc
+same_walk flat q b (c ∷ path) (p ∷ places) [] [] s s' o o' t t' h k e = cc
+same_walk flat q b (c ∷ path) (p ∷ places) [] (p' ∷ places') s s' o o' t t' h k e = cc
+same_walk flat q b (c ∷ path) (p ∷ places) (c' ∷ path') [] s s' o o' t t' h k e = cc
+same_walk flat q b (c ∷ path) (p ∷ places) (c' ∷ path') (p' ∷ places') s s' o o' t t' h k e =
+    let here = slice_get q.blocks b in
+    let w = if_some (is_target (place_at here p) c) (option_and_then (walk flat q (c ∷ path) places) (pass_all flat q (cmds_of here) s)) (o, t) h in
+    let v = if_some (is_target (place_at here p') c') (option_and_then (walk flat q (c' ∷ path') places') (pass_all flat q (cmds_of here) s')) (o', t') k in
+    let m = and_then_some (walk flat q (c ∷ path) places) (pass_all flat q (cmds_of here) s) (o, t) w.1 in
+    let n = and_then_some (walk flat q (c' ∷ path') places') (pass_all flat q (cmds_of here) s') (o', t') v.1 in
+    let first : ◌≡◌ {A = ℕ × ℕ} (b, p) (b, p') = cc in
+    let place : p ≡ p' = ap (λ (x : ℕ × ℕ). x.1) first in
+    let to : Some c ≡ Some c' = sym (target_is (place_at here p) c w.0) ∙ ap (place_at here) place ∙ target_is (place_at here p') c' v.0 in
+    let next : c ≡ c' = cc in
+    let rest : edges_of (c ∷ path) places ≡ edges_of (c' ∷ path') places' = cc in
+    let more = same_walk flat q c' path places path' places' m.0 n.0 o o' t t' (subst (λ (x : ℕ). walk flat q (x ∷ path) places m.0 ≡ Some (o, t)) next m.2) n.2
+        (ap (λ (x : ℕ). edges_of (x ∷ path) places) (sym next) ∙ rest) in
+    ap (λ x. x ∷ path) next ∙ ap (λ (x : List ℕ). c' ∷ x) more
+
 pub first_one : (env : Env) → One (first_edge env) (Some 0) env
 first_one env = inl (refl, refl, refl, tt)
 
 module _ (flat : Limited) (q : FlatProc) (order : List ℕ) (actuals : Actuals) (k : ℕ) (old new : List TermNode) (left : List Wait) (ended fails : ℕ) (outs globals : List ℕ) (edges : List EdgeTerm) (sites : List SiteTerm)
     (b : Built flat q order actuals k old new left ended fails outs globals edges sites) where
   -- from an assignment to a run
-  pub ends_sound : EndsSound flat q actuals new ended outs globals edges sites
+  pub ends_sound : EndsSound flat q order actuals k new ended outs globals edges sites
   ends_sound a f on =
       let es = edges_at a new (all_at a new actuals.consts) left in
       let fs = fold flat q (b.env a) (givens_at flat q a (k + length (start_sorts q q.kind)) order) (first_edge (b.env a)) in
@@ -104,7 +132,22 @@ module _ (flat : Limited) (q : FlatProc) (order : List ℕ) (actuals : Actuals) 
        record {
          passed_are = t.edges_are ∙ sym (b.edges_are a f);
          calls_are = t.calls_are ∙ same_requests ms ps (b.calls_are a f);
-         results_are = some_lists g.results (given_back ms) (t.results_are ∙ same_results ms ps (b.calls_are a f)) })
+         results_are = some_lists g.results (given_back ms) (t.results_are ∙ same_results ms ps (b.calls_are a f)) },
+       ap (λ x. reads a k (length (start_sorts q q.kind)) ++ x) (t.values_are ∙ t.along_are))
+
+  -- which sites are true
+  pub ends_placed : EndsPlaced flat q actuals new ended edges sites
+  ends_placed a f on path places vals results calls os gs run passed =
+      let es = edges_at a new (all_at a new actuals.consts) left in
+      let fs = fold flat q (b.env a) (givens_at flat q a (k + length (start_sorts q q.kind)) order) (first_edge (b.env a)) in
+      let on_fs : ends fs ≡ true = sym (alike_ends es fs (b.alike a f)) ∙ sym (b.ended_is a f) ∙ on in
+      let t = traced flat q (b.env a) (givens_at flat q a (k + length (start_sorts q q.kind)) order) (first_edge (b.env a)) 0 (b.env a) (first_one (b.env a)) on_fs in
+      let g = t.going in
+      let r = run.run in
+      let same : path ≡ g.path =
+          same_walk flat q 0 path places g.path g.places (record run.begin { results = results }) (alone (b.env a) g.values g.results []) (Some r.last) (Some g.run.last) r.arrived g.run.arrived
+              r.walks g.run.walks (passed ∙ b.edges_are a f ∙ sym t.edges_are) in
+      b.places_are a f ∙ sym t.places_are ∙ ap (λ (x : List ℕ). path_places q (0 ∷ x)) (sym same)
 
 -- a start takes the values of its sorts, and leaves the others
 pub record Started (q : FlatProc) (kind : FlatKind) (values : List Value) (begin : State) : Type 0 where
@@ -143,7 +186,7 @@ module _ (flat : Limited) (q : FlatProc) (order : List ℕ) (actuals : Actuals) 
     (are_sorts : (n : ℕ) → AreSorts (chosen (items_at flat q n))) where
 
   -- from a run to an assignment
-  pub ends_complete : EndsComplete flat q actuals k old new ended outs globals edges sites
+  pub ends_complete : EndsComplete flat q order actuals k old new ended outs globals edges sites
   ends_complete a f path places vals results calls os gs run =
       let s = run.begin in
       let st = started q q.kind (all_at a old actuals.consts) (all_at a old actuals.globals) (all_at a old actuals.args) vals s run.begin_is in
@@ -190,6 +233,10 @@ module _ (flat : Limited) (q : FlatProc) (order : List ℕ) (actuals : Actuals) 
       let fs = fold flat q s.env givens (first_edge s.env) in
       let on_fs : ends fs ≡ true = one_ends fs r.over.env found.one in
       let on_es : ends es ≡ true = alike_ends es fs whole ∙ on_fs in
+      let t2 = traced flat q s.env givens (first_edge s.env) 0 s.env (first_one s.env) on_fs in
+      let same_path : path ≡ t2.going.path =
+          same_walk flat q 0 path places t2.going.path t2.going.places (record s { results = results }) (alone s.env t2.going.values t2.going.results []) (Some r.last) (Some t2.going.run.last) r.arrived t2.going.run.arrived
+              r.walks t2.going.run.walks (sym found.facts.edges_are ∙ sym t2.edges_are) in
       let over_is : end_env (b.env c) es ≡ r.over.env = alike_end_env (b.env c) s.env es fs whole (inr on_fs) ∙ one_end_env s.env fs r.over.env found.one in
       (c, record {
         same = extended_old a k row;
@@ -201,4 +248,7 @@ module _ (flat : Limited) (q : FlatProc) (order : List ℕ) (actuals : Actuals) 
           passed_are = sym (b.edges_are c f_new ∙ ap (λ (x : List Given). live_edges flat q (b.env c) x (first_edge (b.env c))) given_read
               ∙ ap (λ (v : Env). live_edges flat q v givens (first_edge v)) env_is ∙ found.facts.edges_are);
           calls_are = r.calls_are ∙ found.facts.calls_are ∙ ap (λ (x : List Request). x ++ on_requests ps) none ∙ same_requests ms ps calls_same;
-          results_are = some_lists results (given_back ms) (found.facts.results_are ∙ same_results ms ps calls_same) } })
+          results_are = some_lists results (given_back ms) (found.facts.results_are ∙ same_results ms ps calls_same) } },
+       st.values_are ∙ ap (λ x. st.first ++ x) (found.facts.values_are ∙ t2.along_are ∙ ap (λ (x : List ℕ). along givens (0 ∷ x)) (sym same_path))
+       ∙ ap (λ x. x ++ along givens (0 ∷ path)) (sym first_read)
+       ∙ ap (λ (x : List Given). reads c k (length (start_sorts q q.kind)) ++ along x (0 ∷ path)) (sym given_read))

@@ -1,4 +1,6 @@
 -- Terms of edges and calls, block by block.
+use Rattle.vc_gen.specs.declared.parts.SiteTerm.{SiteTerm}
+use Rattle.vc_gen.specs.Emit.{site_place, site_value, SitesThere}
 use Rattle.std.proofs.Common.{◌≡◌, ℕ, zero, suc, ◌+◌, ◌<◌, Bool, true, false, not, ◌&&◌, ◌||◌, List, [], ◌∷◌, ◌++◌, map, length, take, arith, sym, ◌∙◌, ap, refl, subst, append-nil, append_assoc, length-append}
 use Rattle.std.specs.Prelude.{Option, None, Some, slice_get, slice_index_or, if◌then◌else◌}
 use Rattle.hy_val.specs.Exprs.{eval, eval_by}
@@ -18,7 +20,7 @@ use Rattle.passive_form.specs.Limited.{Limited}
 use Rattle.passive_form.specs.Local.{State, alone, request, pass}
 use Rattle.flat_prog.specs.Local.{Result, Ended, Broken, Request}
 use Rattle.vc_gen.specs.Fold.{Edge}
-use Rattle.vc_gen.specs.Passages.{Passage, passage_at, behind, passages, marked, targets_on}
+use Rattle.vc_gen.specs.Passages.{Passage, passage_at, behind, passages, marked, targets_on, places_from, places_at}
 use Rattle.passive_form.specs.declared.Item.{Item}
 use Rattle.passive_form.specs.declared.Item.TheVariants.{Let, Zero, Free, Need, Check, Site}
 use Rattle.passive_form.specs.Versions.{Cur, look_at, env_of, Defined, hold, outs_from, after_from, taken_values, taken_results, made_calls, eval_all}
@@ -31,7 +33,7 @@ use Rattle.vc_gen.specs.Standing.{Later}
 use Rattle.vc_gen.specs.Items.{bool_sort, SiteMeans, on_end, site_by, sites_in}
 use Rattle.vc_gen.specs.Instance.{edges_at}
 use Rattle.vc_gen.specs.Joins.{WaitOf, WaitsOf}
-use Rattle.vc_gen.specs.Exact.{edge_term, edge_terms, true_edges, EdgesThere, request_of, result_of, SameCall, SameCalls}
+use Rattle.vc_gen.specs.Exact.{edge_term, edge_terms, true_edges, EdgesThere, request_of, result_of, SameCall, SameCalls, true_sites}
 use Rattle.vc_gen.proofs.Growth.{sort_later}
 use Rattle.vc_gen.proofs.Joining.{sites_append, and_first, and_second}
 use Rattle.vc_gen.proofs.Passes.{bit_later}
@@ -204,3 +206,34 @@ on_calls flat q consts vals cur at k (c ∷ cs) vs rs calls t h =
         SameCalls (sites_in consts vals b (items_all flat q (cur_after flat cur k c) (at + 1) (next_after flat k c) cs)) (behind (passages flat q cs) true s (outcome b e ws ts more))
     by true e ws ts more s go off = go
     by false e ws ts more s go off = off
+
+-- ---- the sites whose bits are true
+
+pub placed_later : (x y : List TermNode) (a : ℕ → Value) (ss : List SiteTerm) → Later x y → SitesThere x ss → true_sites a y ss ≡ true_sites a x ss
+placed_later x y a [] h t = refl
+placed_later x y a (s ∷ ss) h (t, ts) =
+    ap (λ r. if is_on (value a y s.node) then (s.block, s.call) ∷ r else r) (placed_later x y a ss h ts)
+    ∙ ap (λ b. if b then (s.block, s.call) ∷ true_sites a x ss else true_sites a x ss) (bit_later x y a s.node h t.node)
+
+pub placed_append : (a : ℕ → Value) (nodes : List TermNode) (ss rs : List SiteTerm) → true_sites a nodes (ss ++ rs) ≡ true_sites a nodes ss ++ true_sites a nodes rs
+placed_append a nodes [] rs = refl
+placed_append a nodes (s ∷ ss) rs =
+    ap (λ r. if is_on (value a nodes s.node) then (s.block, s.call) ∷ r else r) (placed_append a nodes ss rs) ∙ by (is_on (value a nodes s.node))
+  where
+    by : (b : Bool) → (if b then (s.block, s.call) ∷ (true_sites a nodes ss ++ true_sites a nodes rs) else true_sites a nodes ss ++ true_sites a nodes rs)
+        ≡ (if b then (s.block, s.call) ∷ true_sites a nodes ss else true_sites a nodes ss) ++ true_sites a nodes rs
+    by true = refl
+    by false = refl
+
+-- sites that are numbered on are at the places of the calls
+pub placed_same : (a : ℕ → Value) (nodes : List TermNode) (n i : ℕ) (ss : List SiteTerm) (ps : List Passage) → map site_place ss ≡ places_from n i (length ss) → SameCalls (map (site_value a nodes) ss) ps →
+    true_sites a nodes ss ≡ places_at n i ps
+placed_same a nodes n i [] [] e h = refl
+placed_same a nodes n i [] (p ∷ ps) e h = absurd h
+placed_same a nodes n i (s ∷ ss) [] e h = absurd h
+placed_same a nodes n i (s ∷ ss) (p ∷ ps) e (h, hs) =
+    let head : ◌≡◌ {A = ℕ × ℕ} (s.block, s.call) (n, i) = cc in
+    let tail : map site_place ss ≡ places_from n (i + 1) (length ss) = cc in
+    ap (λ b. if b then (s.block, s.call) ∷ true_sites a nodes ss else true_sites a nodes ss) h.on_is
+    ∙ ap (λ r. if p.on then (s.block, s.call) ∷ r else r) (placed_same a nodes n (i + 1) ss ps tail hs)
+    ∙ ap (λ z. if p.on then z ∷ places_at n (i + 1) ps else places_at n (i + 1) ps) head

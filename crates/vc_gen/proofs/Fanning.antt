@@ -1,4 +1,6 @@
 -- The edges of a goto, one by one.
+use Rattle.flat_prog.specs.Sites.{numbers_from}
+use Rattle.vc_gen.proofs.Numbers.{numbers_then}
 use Rattle.std.proofs.Common.{◌≡◌, ℕ, zero, suc, ◌+◌, ◌-◌, ◌<◌, ◌≤◌, Bool, true, false, not, ◌&&◌, List, [], ◌∷◌, ◌++◌, map, length, take, drop, replicate, arith, sym, ◌∙◌, ap, refl, subst, append-nil, append_assoc, length-append}
 use Rattle.std.specs.Prelude.{Option, None, Some, slice_get, slice_index, slice_index_or, IsTrue, IsSome}
 use Rattle.std.proofs.lemmas.List.{map-append}
@@ -14,7 +16,7 @@ use Rattle.passive_form.specs.Local.{sorted_as}
 use Rattle.vc_gen.specs.Fold.{Edge, fan}
 use Rattle.vc_gen.specs.declared.parts.Draft.{Draft}
 use Rattle.vc_gen.specs.declared.parts.Wait.{Wait}
-use Rattle.vc_gen.specs.Standing.{Later, Plain, AreOf}
+use Rattle.vc_gen.specs.Standing.{Later, Plain, AreOf, variables_in}
 use Rattle.vc_gen.specs.Items.{bool_sort}
 use Rattle.vc_gen.specs.Instance.{all_at, edge_at, edges_at}
 use Rattle.vc_gen.specs.Joins.{WaitThere, WaitOf, WaitsOf}
@@ -63,7 +65,7 @@ pub fan_start : (old : List TermNode) (d : Draft) (targets globals locals : List
 fan_start old d targets globals locals before h c b =
     let z : length targets - 1 - 0 ≡ length targets - 1 = omega arith in
     record {
-      later = later_same old h; frame = refl; next = omega arith; below = b; left_sort = c; more = []; waits_are = sym (append-nil before); there = tt; of = λ gs ls g l. tt;
+      later = later_same old h; frame = refl; next = omega arith; below = b; numbers = sym (append-nil (variables_in old)); left_sort = c; more = []; waits_are = sym (append-nil before); there = tt; of = λ gs ls g l. tt;
       says = λ a consts f. ap (λ n. fan (is_on (value a old d.cond)) (env_at a old consts globals locals) targets (picked a d.next n)) z;
       fit = λ a f k. f }
 
@@ -102,6 +104,7 @@ fan_next old mid new d m e targets globals locals before i left live rest waits 
       frame = framed_then d m e h.frame p.frame;
       next = omega (arith, p.next, h.next);
       below = p.below;
+      numbers = numbers_then (variables_in old) (variables_in mid) (variables_in new) d.next m.next i 1 (i + 1) h.numbers h.next p.numbers refl;
       left_sort = p.rest_sort;
       more = h.more ++ w ∷ [];
       waits_are = push ∙ ap (λ x. x ++ w ∷ []) h.waits_are ∙ append_assoc before h.more (w ∷ []);
@@ -161,6 +164,7 @@ fan_end old new d e targets globals locals before i j left waits waits' gt lt so
       frame = h.frame;
       next = h.next ∙ ap (λ n. d.next + n) i_last;
       below = h.below;
+      numbers = h.numbers ∙ ap (λ n. variables_in old ++ numbers_from d.next n) i_last;
       more = h.more ++ w ∷ [];
       waits_are = push ∙ ap (λ x. x ++ w ∷ []) h.waits_are ∙ append_assoc before h.more (w ∷ []);
       there = waits_append new h.more (w ∷ []) h.there

@@ -1,6 +1,7 @@
 -- The assignments that make the fail bit true are the runs that fail.
+use Rattle.vc_gen.proofs.Prefixes.{prefix_then}
 use Rattle.std.proofs.Common.{◌≡◌, ℕ, zero, suc, ◌+◌, ◌<◌, Bool, true, false, ◌&&◌, List, [], ◌∷◌, ◌++◌, map, length, arith, sym, ◌∙◌, ap, refl, subst, inl, inr}
-use Rattle.std.specs.Prelude.{Option, None, Some, slice_get, if◌then◌else◌, IsTrue, IsSome}
+use Rattle.std.specs.Prelude.{Option, None, Some, slice_get, if◌then◌else◌, IsTrue, IsSome, take}
 use Rattle.std.specs.Option.{option_and_then}
 use Rattle.hy_val.specs.Values.{at, is_on}
 use Rattle.hy_val.specs.declared.sort.Sort.{Sort}
@@ -27,8 +28,8 @@ use Rattle.vc_gen.specs.BlockPlans.{recast}
 use Rattle.vc_gen.proofs.Recasting.{fails_again}
 use Rattle.vc_gen.proofs.Both.{never_both}
 use Rattle.vc_gen.proofs.Alikes.{alike_ends}
-use Rattle.vc_gen.specs.Instance.{NeverBoth, edges_at, all_at, start_sorts, room, first_edge, Built, FailsFrom, FailsSound, FailAnswers, FailsComplete}
-use Rattle.vc_gen.specs.Passages.{Passage, all_passages, on_requests, blame, blamed}
+use Rattle.vc_gen.specs.Instance.{NeverBoth, edges_at, all_at, start_sorts, room, first_edge, Built, FailsFrom, FailsSound, FailAnswers, FailsComplete, FailsPlaced}
+use Rattle.vc_gen.specs.Passages.{Passage, all_passages, on_requests, blame, blamed, all_places, path_places, along, seen_values}
 use Rattle.passive_form.specs.Making.{block_or}
 use Rattle.vc_gen.specs.declared.parts.Wait.{Wait}
 use Rattle.vc_gen.specs.declared.parts.EdgeTerm.{EdgeTerm}
@@ -43,18 +44,18 @@ use Rattle.vc_gen.proofs.Growth.{map_later}
 use Rattle.vc_gen.proofs.Joining.{sorts_both}
 use Rattle.vc_gen.proofs.Shapes.{shaped_used, length_have}
 use Rattle.vc_gen.proofs.Laying.{laid, dull, dull_shaped, read_split}
-use Rattle.vc_gen.proofs.Ends.{first_one, started, some_state, extended_old, same_requests, same_results, some_lists}
+use Rattle.vc_gen.proofs.Ends.{first_one, started, some_state, extended_old, same_requests, same_results, some_lists, same_walk}
 use Rattle.vc_gen.proofs.Shards.{broken_block}
 
 module _ (flat : Limited) (q : FlatProc) (order : List ℕ) (actuals : Actuals) (k : ℕ) (old new : List TermNode) (left : List Wait) (ended fails : ℕ) (outs globals : List ℕ) (edges : List EdgeTerm) (sites : List SiteTerm)
     (b : Built flat q order actuals k old new left ended fails outs globals edges sites) where
 
-  pub fails_sound : FailsSound flat q actuals new fails edges sites
+  pub fails_sound : FailsSound flat q order actuals k new fails edges sites
   fails_sound a f on x y =
       let gs = givens_at flat q a (k + length (start_sorts q q.kind)) order in
       let m = failed flat q (b.env a) gs (first_edge (b.env a)) 0 (b.env a) (first_one (b.env a)) (sym (b.fails_is a f) ∙ on) in
       let w = m.way in
-      let l = failed_run flat q 0 (b.env a) (live_edges flat q (b.env a) gs (first_edge (b.env a))) (all_passages flat q (seen flat q (b.env a) gs (first_edge (b.env a)))) m in
+      let l = failed_run flat q 0 (b.env a) (live_edges flat q (b.env a) gs (first_edge (b.env a))) (all_passages flat q (seen flat q (b.env a) gs (first_edge (b.env a)))) (all_places flat q (seen flat q (b.env a) gs (first_edge (b.env a)))) (seen_values (seen flat q (b.env a) gs (first_edge (b.env a)))) (along gs) m in
       let vs = w.values ++ m.values in
       let rs = w.results ++ (m.results ++ m.more) in
       let ms = map (site_value a new) sites in
@@ -69,7 +70,23 @@ module _ (flat : Limited) (q : FlatProc) (order : List ℕ) (actuals : Actuals) 
        record {
          passed_are = m.edges_are ∙ sym (b.edges_are a f);
          calls_are = m.calls_are ∙ same_requests ms ps (b.calls_are a f);
-         results_are = ap (map (recast x y)) (some_lists rs (given_back ms) (m.results_are ∙ same_results ms ps (b.calls_are a f))) })
+         results_are = ap (map (recast x y)) (some_lists rs (given_back ms) (m.results_are ∙ same_results ms ps (b.calls_are a f))) },
+       prefix_then (reads a k (length (start_sorts q q.kind))) vs (along gs (0 ∷ w.path)) (reads a k (length (start_sorts q q.kind)) ++ vs) refl (m.takes ∙ ap (take (length vs)) m.along_are))
+
+  -- which sites are true
+  pub fails_placed : FailsPlaced flat q actuals new fails edges sites
+  fails_placed a f on path places vals results calls proc number run passed asked_are =
+      let gs = givens_at flat q a (k + length (start_sorts q q.kind)) order in
+      let m = failed flat q (b.env a) gs (first_edge (b.env a)) 0 (b.env a) (first_one (b.env a)) (sym (b.fails_is a f) ∙ on) in
+      let w = m.way in
+      let ps = all_passages flat q (seen flat q (b.env a) gs (first_edge (b.env a))) in
+      let r = run.run in
+      let same : path ≡ w.path =
+          same_walk flat q 0 path places w.path w.places (record run.begin { results = results }) (alone (b.env a) (w.values ++ m.values) (w.results ++ (m.results ++ m.more)) []) (Some r.last) (slice_get q.blocks m.c) r.arrived
+              (alone m.at_env m.values (m.results ++ m.more) w.calls) r.walks (w.goes m.values (m.results ++ m.more)) (passed ∙ b.edges_are a f ∙ sym m.edges_are) in
+      let many : w.calls ++ (m.made ++ m.own) ≡ calls = m.calls_are ∙ same_requests (map (site_value a new) sites) ps (b.calls_are a f) ∙ sym asked_are in
+      b.places_are a f ∙ sym m.places_are ∙ ap (λ (x : List Request). take (length x) (path_places q (0 ∷ w.path))) many
+      ∙ ap (λ (x : List ℕ). take (length calls) (path_places q (0 ∷ x))) (sym same)
 
   pub never : NeverBoth new ended fails
   never a f on =
@@ -100,18 +117,18 @@ module _ (flat : Limited) (q : FlatProc) (order : List ℕ) (actuals : Actuals) 
     (are_sorts : (n : ℕ) → AreSorts (chosen (items_at flat q n))) where
 
   -- from a run that fails to an assignment
-  pub fails_complete : FailsComplete flat q actuals k old new fails edges sites
+  pub fails_complete : FailsComplete flat q order actuals k old new fails edges sites
   fails_complete a f path places vals results calls proc number run =
       let s = run.begin in
       let st = started q q.kind (all_at a old actuals.consts) (all_at a old actuals.globals) (all_at a old actuals.args) vals s run.begin_is in
       let r = run.run in
       let n = last_of 0 path in
       let at_n : slice_get q.blocks n ≡ Some r.last = walk_last flat q 0 path places (record s { results = results }) (Some r.last) r.arrived r.walks in
-      let block = broken_block flat q n r.last r.before r.at r.after r.arrived r.over (Broken proc number) calls at_n r.splits r.passes r.fails (are_sorts n) in
+      let block = broken_block flat q n r.last r.before r.at r.after r.arrived r.over (Broken proc number) calls at_n r.splits r.passes r.fails (are_sorts n) r.taken in
       let c = block.given in
       let at_c : slice_get q.blocks c.number ≡ Some r.last = ap (slice_get q.blocks) block.number_is ∙ at_n in
       let walks : walk flat q (0 ∷ path) places (record s { results = results }) ≡ Some (slice_get q.blocks c.number, r.arrived) = r.walks ∙ ap (λ (o : Option FlatBlock). Some (o, r.arrived)) (sym at_c) in
-      let last : Last flat q c r.arrived calls = record { block = r.last; at = at_c; breaks_is = block.breaks_is; asks = block.asks; gets = block.gets } in
+      let last : Last flat q c r.arrived calls = record { block = r.last; at = at_c; breaks_is = block.breaks_is; asks = block.asks; takes = block.takes; gets = block.gets } in
       let found = arrives flat q s.env (dull flat q) (λ i. refl) (Shaped flat q) (dull_shaped flat q are_sorts) (shaped_used flat q) order c r.arrived calls block.shaped last onward (first_edge s.env) 0 path places (record s { results = results })
               (first_one s.env) first walks block.number_is in
       let givens = found.givens in
@@ -146,6 +163,10 @@ module _ (flat : Limited) (q : FlatProc) (order : List ℕ) (actuals : Actuals) 
       let calls_same : SameCalls ms ps =
           subst (λ (v : Env). SameCalls ms (all_passages flat q (seen flat q v givens (first_edge v)))) env_is
               (subst (λ (x : List Given). SameCalls ms (all_passages flat q (seen flat q (b.env e) x (first_edge (b.env e))))) given_read (b.calls_are e f_new)) in
+      let m2 = failed flat q s.env givens (first_edge s.env) 0 s.env (first_one s.env) any in
+      let same_path : path ≡ m2.way.path =
+          same_walk flat q 0 path places m2.way.path m2.way.places (record s { results = results }) (alone s.env (m2.way.values ++ m2.values) (m2.way.results ++ (m2.results ++ m2.more)) []) (Some r.last) (slice_get q.blocks m2.c) r.arrived
+              (alone m2.at_env m2.values (m2.results ++ m2.more) m2.way.calls) r.walks (m2.way.goes m2.values (m2.results ++ m2.more)) (sym found.facts.edges_are ∙ sym m2.edges_are) in
       (e, record {
         same = extended_old a k row;
         fit = f_new;
@@ -156,4 +177,8 @@ module _ (flat : Limited) (q : FlatProc) (order : List ℕ) (actuals : Actuals) 
             ∙ ap (λ (v : Env). live_edges flat q v givens (first_edge v)) env_is ∙ found.facts.edges_are);
         calls_are = found.facts.calls_are ∙ ap (λ (x : List Request). x ++ on_requests ps) none ∙ same_requests ms ps calls_same;
         results_are = some_lists (map blame results) (map blame (given_back ms))
-            (sym (fused results) ∙ found.facts.results_are ∙ ap (map blamed) (same_results ms ps calls_same) ∙ fused (given_back ms)) })
+            (sym (fused results) ∙ found.facts.results_are ∙ ap (map blamed) (same_results ms ps calls_same) ∙ fused (given_back ms)) },
+       prefix_then st.first s.values (along givens (0 ∷ path)) vals st.values_are
+           (found.facts.values_are ∙ ap (take (length s.values)) (m2.along_are ∙ ap (λ (x : List ℕ). along givens (0 ∷ x)) (sym same_path)))
+       ∙ ap (λ x. take (length vals) (x ++ along givens (0 ∷ path))) (sym first_read)
+       ∙ ap (λ (x : List Given). take (length vals) (reads e k (length (start_sorts q q.kind)) ++ along x (0 ∷ path))) (sym given_read))

@@ -31,10 +31,9 @@ use Rattle.passive_form.specs.declared.Item.{Item}
 use Rattle.passive_form.specs.declared.Item.TheVariants.{Let, Zero, Free, Need, Check, Site}
 use Rattle.passive_form.specs.Versions.{Cur, from, outs_from, after_from}
 use Rattle.passive_form.specs.Making.{version_or, version_of, over_versions, set_version, set_versions, lets, sort_or, frees, callee_outs, callee_changes, items_of, cur_after, next_after, items_all, cur_end, entry_cur, entry_count, block_or, no_block, passive_block, passive_blocks, free_items, zero_items, passive_start, passive_of}
-use Rattle.passive_form.specs.Laws.{targets_there, cmd_there, cmds_there}
+use Rattle.passive_form.specs.Laws.{targets_there, cmd_there, cmds_there, AllThere as BlocksThere}
 use Rattle.vc_gen.specs.Items.{bool_sort, made_by, made, sort_in, ReadsIn, AllRead, AllThere, AreSorts, ItemFits, ItemsFit}
 use Rattle.vc_gen.specs.Fitting.{SortsAre, HasTarget, BlockFits, AllFit, PassiveFits}
-use Rattle.vc_gen.specs.Flowing.{AllThere as BlocksThere}
 use Rattle.vc_gen.proofs.Joining.{and_two}
 
 -- ---- versions and their sorts
@@ -56,7 +55,7 @@ sorts_more vsorts more [] (s ∷ ss) h = absurd h
 sorts_more vsorts more (v ∷ vs) [] h = absurd h
 sorts_more vsorts more (v ∷ vs) (s ∷ ss) (h, hs) = (get_front vsorts more v s h, sorts_more vsorts more vs ss hs)
 
-sorts_from : (vsorts pre xs post : List Sort) (k : ℕ) → vsorts ≡ pre ++ (xs ++ post) → length pre ≡ k → SortsAre vsorts (from k xs) xs
+pub sorts_from : (vsorts pre xs post : List Sort) (k : ℕ) → vsorts ≡ pre ++ (xs ++ post) → length pre ≡ k → SortsAre vsorts (from k xs) xs
 sorts_from vsorts pre [] post k is n = tt
 sorts_from vsorts pre (x ∷ xs) post k is n =
     (ap (λ vs. slice_get vs k) is ∙ get_seam pre x (xs ++ post) k n,

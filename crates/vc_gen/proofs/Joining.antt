@@ -1,4 +1,6 @@
 -- What is said of two lists of items is said of both together.
+use Rattle.vc_gen.proofs.Numbers.{numbers_then}
+use Rattle.vc_gen.specs.Passages.{places_from}
 use Rattle.std.proofs.Common.{◌≡◌, ℕ, zero, suc, ◌+◌, ◌<◌, ◌≤◌, Bool, true, false, not, ◌&&◌, ◌||◌, List, [], ◌∷◌, ◌++◌, map, length, arith, sym, ◌∙◌, ap, refl, subst, append-nil, append_assoc, length-append}
 use Rattle.std.specs.Prelude.{Option, None, Some, slice_get, take, IsTrue, IsSome}
 use Rattle.std.proofs.lemmas.List.{map-append}
@@ -18,9 +20,9 @@ use Rattle.passive_form.proofs.Passing.{defined_append}
 use Rattle.vc_gen.specs.declared.parts.Draft.{Draft}
 use Rattle.vc_gen.specs.declared.parts.SiteTerm.{SiteTerm}
 use Rattle.vc_gen.specs.declared.parts.FailTerm.{FailTerm}
-use Rattle.vc_gen.specs.Standing.{Later, AreOf}
+use Rattle.vc_gen.specs.Standing.{Later, AreOf, variables_in}
 use Rattle.vc_gen.specs.Items.{bool_sort, made_by, made, chosen_by, chosen, ItemFits, ItemsFit, SiteMeans, FailMeans, input_of, inputs, on_after, on_end, fails_by, fails_in, site_by, sites_in, assert_by, asserts_in}
-use Rattle.vc_gen.specs.Emit.{SitesOf, SiteIs, AreVariables, Stands, ItemReady, Meant, Fresh, site_value, fail_value, SiteThere, SitesThere, FailsThere, Says, Step}
+use Rattle.vc_gen.specs.Emit.{SitesOf, SiteIs, AreVariables, Stands, ItemReady, Meant, Fresh, site_value, fail_value, SiteThere, SitesThere, FailsThere, Says, Step, site_place}
 use Rattle.vc_gen.proofs.Growth.{later_same, later_then, value_later, sort_later, are_later, are_append, map_later, sort_within, are_got, are_count}
 
 pub made_append : (xs ys : List Item) → made (xs ++ ys) ≡ made xs ++ made ys
@@ -165,6 +167,11 @@ site_stays x y s h t = record {
   changed = (t.changed.0, are_later x y s.changed t.changed.0 h t.changed.1);
   after = (t.after.0, are_later x y s.globals_after t.after.0 h t.after.1);
   fails = sort_later x y s.fails bool_sort h t.fails;
+  failed = sort_later x y s.failed bool_sort h t.failed;
+  fails_is = λ a f.
+    ap is_on (value_later x y a s.fails h (sort_within x s.fails bool_sort t.fails)) ∙ t.fails_is a (fits_before a x y h f)
+    ∙ ap (λ v. is_on v && is_on (value a x s.failed)) (sym (value_later x y a s.node h (sort_within x s.node bool_sort t.node)))
+    ∙ ap (λ v. is_on (value a y s.node) && is_on v) (sym (value_later x y a s.failed h (sort_within x s.failed bool_sort t.failed)));
   variables = (t.variables.0, variables_stay x y (s.failed ∷ (s.outs ++ s.changed)) s.first t.variables.0 h t.variables.1);
   args_before = t.args_before; globals_before = t.globals_before; others_behind = t.others_behind;
   numbers = subst (λ (ns : List TermNode). IsTrue (below s.first ns)) (sym (same_front x y s.failed h (first_within x s.failed (s.outs ++ s.changed) s.first t.variables.0 t.variables.1))) t.numbers;
@@ -242,10 +249,20 @@ stands_then cs block old new d e csorts vsorts items h s = record {
   versions = subst (λ (vs : List ℕ). AreOf new vs (vsorts ++ made items)) (sym s.versions) (are_append new d.versions s.more vsorts (made items) (are_later old new d.versions vsorts s.later h.versions) s.are);
   cond = s.cond; fails = s.fails; next = s.below }
 
+places_append : (b k n m : ℕ) → places_from b k (n + m) ≡ places_from b k n ++ places_from b (k + n) m
+places_append b k zero m =
+    let e : zero + m ≡ m = omega arith in
+    let f : k ≡ k + zero = omega arith in
+    ap (places_from b k) e ∙ ap (λ i. places_from b i m) f
+places_append b k (suc n) m =
+    let e : suc n + m ≡ suc (n + m) = omega arith in
+    let f : k + 1 + n ≡ k + suc n = omega arith in
+    ap (places_from b k) e ∙ ap (λ r. (b, k) ∷ r) (places_append b (k + 1) n m ∙ ap (λ i. places_from b (k + 1) n ++ places_from b i m) f)
+
 pub step_nil : (cs : List ℕ) (block : ℕ) (old : List TermNode) (d : Draft) (csorts vsorts : List Sort) → Stands old cs d csorts vsorts → Step cs block old d [] old d
 step_nil cs block old d csorts vsorts h = record {
   later = later_same old h.sound; more = []; versions = sym (append-nil d.versions); are = tt; cond = h.cond; fails = h.fails;
-  next = omega arith; below = h.next; sites = []; sites_there = tt; sites_of = tt; sites_behind = sym (append-nil d.sites); asserts = []; asserts_there = tt; asserts_behind = sym (append-nil d.asserts);
+  next = omega arith; below = h.next; sites = []; sites_there = tt; sites_of = tt; sites_behind = sym (append-nil d.sites); numbered = refl; calls = omega arith; variables = sym (append-nil (variables_in old)); asserts = []; asserts_there = tt; asserts_behind = sym (append-nil d.asserts);
   says = λ a consts vals f m. record { defined = tt; on = refl; fails = refl; inputs_are = refl; sites_are = refl; asserts_are = refl };
   fit = λ a f k. f }
 
@@ -268,6 +285,11 @@ step_then cs block old mid new d m e csorts vsorts xs ys h s t =
       sites_there = sites_there_append new s.sites t.sites (sites_stay mid new s.sites t.later s.sites_there) t.sites_there;
       sites_of = of_both new xs ys s.sites t.sites (of_later mid new xs s.sites t.later s.sites_of) t.sites_of;
       sites_behind = t.sites_behind ∙ ap (λ r. r ++ t.sites) s.sites_behind ∙ append_assoc d.sites s.sites t.sites;
+      numbered = map-append site_place s.sites t.sites ∙ ap (λ r. r ++ map site_place t.sites) s.numbered
+          ∙ ap (λ r. places_from block d.calls (length s.sites) ++ r) (t.numbered ∙ ap (λ i. places_from block i (length t.sites)) s.calls)
+          ∙ sym (ap (places_from block d.calls) (length-append s.sites t.sites) ∙ places_append block d.calls (length s.sites) (length t.sites));
+      calls = omega (arith, t.calls, s.calls, length-append s.sites t.sites);
+      variables = numbers_then (variables_in old) (variables_in mid) (variables_in new) d.next m.next (length (chosen xs)) (length (chosen ys)) (length (chosen (xs ++ ys))) s.variables s.next t.variables n;
       asserts = s.asserts ++ t.asserts;
       asserts_there = fails_there_append new s.asserts t.asserts (fails_stay mid new s.asserts t.later s.asserts_there) t.asserts_there;
       asserts_behind = t.asserts_behind ∙ ap (λ r. r ++ t.asserts) s.asserts_behind ∙ append_assoc d.asserts s.asserts t.asserts;

@@ -1,3 +1,4 @@
+pub mod Prefixes
 pub mod Frames
 pub mod Edges
 pub mod Sound
@@ -20,6 +21,7 @@ pub mod BlockLaws
 pub mod Looking
 pub mod Replacing
 pub mod Growth
+pub mod Numbers
 pub mod Nodes
 pub mod Walking
 pub mod Joining
@@ -54,3 +56,4 @@ pub mod Fitness
 pub mod Rows
 pub mod Planning
 pub mod Stopping
+pub mod Readying

@@ -9,7 +9,7 @@ use Rattle.flat_prog.specs.declared.proc.FlatProc.{FlatProc}
 use Rattle.passive_form.specs.Limited.{Limited}
 use Rattle.passive_form.specs.Local.{State}
 use Rattle.vc_gen.specs.Fold.{Edge, Given, Seen, seen, seen_at, reached, entered, others, through, fan, out_next, out_of, passed, step, fold, places_on, edges_next, edges_out, live_edges}
-use Rattle.vc_gen.specs.Passages.{marked, targets_on, passages_seen, all_passages}
+use Rattle.vc_gen.specs.Passages.{marked, targets_on, passages_seen, all_passages, places_seen, all_places}
 use Rattle.vc_gen.specs.Alike.{Alike}
 use Rattle.vc_gen.proofs.Alikes.{alike_reached, alike_entered}
 use Rattle.vc_gen.proofs.Reach.{edges_off, edges_next_off}
@@ -73,6 +73,10 @@ out_targets flat q d g es next b at h =
     let on = reached g.number es in
     alike_targets g.number 0 next (passed o on (slice_get q.blocks g.number) d g.choices) (alike_behind (others g.number es) next (passed o on (slice_get q.blocks g.number) d g.choices) h)
     ∙ ap (λ x. targets_on g.number 0 (passed o on x d g.choices)) at ∙ passed_targets g.number o on b d g.choices ∙ ap (λ x. edges_out g.number o on x g.choices) (sym at)
+
+pub places_push : (flat : Limited) (q : FlatProc) (xs : List Seen) (x : Seen) → all_places flat q (xs ++ x ∷ []) ≡ all_places flat q xs ++ places_seen flat q x
+places_push flat q [] x = append-nil (places_seen flat q x)
+places_push flat q (y ∷ xs) x = ap (λ r. places_seen flat q y ++ r) (places_push flat q xs x) ∙ sym (append_assoc (places_seen flat q y) (all_places flat q xs) (places_seen flat q x))
 
 pub passages_push : (flat : Limited) (q : FlatProc) (xs : List Seen) (x : Seen) → all_passages flat q (xs ++ x ∷ []) ≡ all_passages flat q xs ++ passages_seen flat q x
 passages_push flat q [] x = append-nil (passages_seen flat q x)

@@ -25,7 +25,7 @@ use Rattle.vc_gen.proofs.Alikes.{alike_ends, alike_end_env}
 use Rattle.vc_gen.proofs.Edges.{one_ends, one_end_env}
 use Rattle.vc_gen.proofs.Frames.{choose_some}
 use Rattle.vc_gen.proofs.Traces.{traced}
-use Rattle.vc_gen.specs.Passages.{Passage, all_passages, on_requests, on_results}
+use Rattle.vc_gen.specs.Passages.{Passage, all_passages, on_requests, on_results, along}
 use Rattle.vc_gen.proofs.Complete.{Each, Ending}
 use Rattle.vc_gen.proofs.Completes.{completed}
 use Rattle.vc_gen.specs.Standing.{Later, AreOf}
@@ -45,7 +45,7 @@ use Rattle.vc_gen.proofs.Laying.{laid, dull, dull_shaped, read_split}
 use Rattle.vc_gen.proofs.BlockPlanning.{Never, Nowhere, planned}
 use Rattle.vc_gen.specs.Plans.{EndPlan, EndsPlanned}
 use Rattle.vc_gen.proofs.Rows.{StopRow, laid_plan, old_same}
-use Rattle.vc_gen.proofs.Ends.{same_requests, same_results, some_lists, first_one, started, some_state}
+use Rattle.vc_gen.proofs.Ends.{same_requests, same_results, some_lists, first_one, started, some_state, same_walk}
 
 module _ (flat : Limited) (q : FlatProc) (order : List ℕ) (actuals : Actuals) (csorts gsorts isorts : List Sort) (k : ℕ) (old new : List TermNode) (left : List Wait) (ended fails : ℕ) (outs globals : List ℕ) (edges : List EdgeTerm) (sites : List SiteTerm)
     (b : Built flat q order actuals k old new left ended fails outs globals edges sites)
@@ -87,8 +87,12 @@ module _ (flat : Limited) (q : FlatProc) (order : List ℕ) (actuals : Actuals) 
           let fs = fold flat q s.env givens (first_edge s.env) in
           let on_fs : ends fs ≡ true = one_ends fs r.over.env found.0 in
           let on_es : ends es ≡ true = alike_ends es fs whole ∙ on_fs in
+          let t2 = traced flat q s.env givens (first_edge s.env) 0 s.env (first_one s.env) on_fs in
+          let same_path : path ≡ t2.going.path =
+              same_walk flat q 0 path places t2.going.path t2.going.places (record s { results = results }) (alone s.env t2.going.values t2.going.results []) (Some r.last) (Some t2.going.run.last) r.arrived t2.going.run.arrived
+                  r.walks t2.going.run.walks (sym found.1.edges_are ∙ sym t2.edges_are) in
           let over_is : end_env (b.env c) es ≡ r.over.env = alike_end_env (b.env c) s.env es fs whole (inr on_fs) ∙ one_end_env s.env fs r.over.env found.0 in
-          record {
+          (record {
             same = same;
             fit = f_new;
             ended_is = b.ended_is c f_new ∙ on_es;
@@ -97,4 +101,5 @@ module _ (flat : Limited) (q : FlatProc) (order : List ℕ) (actuals : Actuals) 
             passes = record {
               passed_are = sym (b.edges_are c f_new ∙ ap (λ (v : Env). live_edges flat q v givens (first_edge v)) env_is ∙ found.1.edges_are);
               calls_are = r.calls_are ∙ found.1.calls_are ∙ ap (λ (x : List Request). x ++ on_requests ps) none ∙ same_requests ms ps calls_same;
-              results_are = some_lists results (given_back ms) (found.1.results_are ∙ same_results ms ps calls_same) } } }
+              results_are = some_lists results (given_back ms) (found.1.results_are ∙ same_results ms ps calls_same) } },
+           st.values_are ∙ ap (λ x. st.first ++ x) (found.1.values_are ∙ t2.along_are ∙ ap (λ (x : List ℕ). along givens (0 ∷ x)) (sym same_path)) ∙ ap (λ x. x ++ along givens (0 ∷ path)) (sym first_read)) }

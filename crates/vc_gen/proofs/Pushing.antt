@@ -1,4 +1,5 @@
 -- One node more: bits of bits, and new variables.
+use Rattle.flat_prog.specs.Sites.{numbers_from}
 use Rattle.std.proofs.Common.{◌≡◌, ℕ, zero, suc, ◌+◌, ◌<◌, ◌≤◌, Bool, true, false, not, ◌&&◌, ◌||◌, List, [], ◌∷◌, ◌++◌, map, length, take, arith, sym, ◌∙◌, ap, refl, subst, append-nil, append_assoc, length-append}
 use Rattle.std.specs.Prelude.{Option, None, Some, slice_get, slice_index_or, nat_lt, nat_eq, IsTrue, IsSome, if◌then◌else◌}
 use Rattle.std.specs.Option.{option_and_then}
@@ -28,11 +29,11 @@ use Rattle.hy_term.proofs.Typing.{value_has_sort}
 use Rattle.hy_term.proofs.Sorting.{and_both, and_left, and_right}
 use Rattle.passive_form.specs.Local.{sorted_as}
 use Rattle.vc_gen.specs.declared.parts.Draft.{Draft}
-use Rattle.vc_gen.specs.Standing.{Later, Plain, AreOf}
+use Rattle.vc_gen.specs.Standing.{Later, Plain, AreOf, variables_in}
 use Rattle.vc_gen.specs.Items.{bool_sort, AreSorts}
 use Rattle.vc_gen.specs.Emit.{Bit, IsBoth, IsEither, IsNot, row_of, Fresh, FreshSoFar}
 use Rattle.passive_form.specs.Versions.{from}
-use Rattle.vc_gen.proofs.Growth.{behind_unary, behind_binary, sort_added, fits_by, later_same, later_push, later_then, plain_push, below_push, fits_push, are_later, are_append, map_later, sort_within}
+use Rattle.vc_gen.proofs.Growth.{behind_unary, behind_binary, sort_added, fits_by, later_same, later_push, later_then, plain_push, below_push, fits_push, are_later, are_append, map_later, sort_within, variables_append}
 use Rattle.vc_gen.proofs.Looking.{take_at, take_all}
 use Rattle.vc_gen.proofs.Joining.{reads_append, length_reads, sorts_left, sorts_right, and_first}
 
@@ -197,6 +198,14 @@ fresh_next old mid new d m e ss i s l is h k =
 
 pub fresh_whole : (old new : List TermNode) (d e : Draft) (ss : List Sort) (i : ℕ) → length ss ≤ i → Fresh old d (take i ss) new e → Fresh old d ss new e
 fresh_whole old new d e ss i l h = subst (λ (xs : List Sort). Fresh old d xs new e) (take_all ss i l) h
+
+row_numbers : (k : ℕ) (ss : List Sort) → variables_in (row_of k ss) ≡ numbers_from k (length ss)
+row_numbers k [] = refl
+row_numbers k (s ∷ ss) = ap (λ r. k ∷ r) (row_numbers (k + 1) ss)
+
+-- new variables are numbered on
+pub fresh_numbers : (old new : List TermNode) (d e : Draft) (ss : List Sort) → Fresh old d ss new e → variables_in new ≡ variables_in old ++ numbers_from d.next (length ss)
+fresh_numbers old new d e ss h = ap variables_in h.nodes_are ∙ variables_append old (row_of d.next ss) ∙ ap (λ r. variables_in old ++ r) (row_numbers d.next ss)
 
 pub so_far_none : (old : List TermNode) (d : Draft) (ts : List ℕ) → IsSome (sorts old) → IsTrue (below d.next old) → ts ≡ [] → FreshSoFar old d [] old d ts
 so_far_none old d ts h b e = record { fresh = fresh_none old d h b; versions = sym (append-nil d.versions) ∙ ap (λ r. d.versions ++ r) (sym e) }

@@ -1,6 +1,7 @@
 -- Values of a block that fails: up to the place that fails the run's, there what fails, and behind it zeros.
+use Rattle.vc_gen.proofs.Prefixes.{prefix_then, prefix_none}
 use Rattle.std.proofs.Common.{◌≡◌, ℕ, zero, suc, ◌+◌, Bool, true, false, not, ◌&&◌, ◌||◌, List, [], ◌∷◌, ◌++◌, map, length, sym, ◌∙◌, ap, refl, subst, append-nil, append_assoc, length-append, arith}
-use Rattle.std.specs.Prelude.{Option, None, Some, slice_get, if◌then◌else◌, IsTrue}
+use Rattle.std.specs.Prelude.{Option, None, Some, slice_get, if◌then◌else◌, IsTrue, take}
 use Rattle.std.specs.Option.{option_and_then}
 use Rattle.hy_val.specs.declared.atom.AtomKind.TheVariants.{Bool as BoolAtom}
 use Rattle.hy_val.specs.declared.sort.Sort.{Sort}
@@ -67,6 +68,7 @@ pub record Shards (flat : Limited) (q : FlatProc) (cur : Cur) (at k : ℕ) (cmds
   pub split : chosen (items_all flat q cur at k cmds) ≡ first ++ rest
   pub sorts : sorted_as first front ≡ true
   pub size : length first ≡ count
+  pub takes : (tail : List Value) → s.values ≡ take (length s.values) (values_in (items_all flat q cur at k cmds) (front ++ tail))
   pub breaks_is : (tail : List Value) (calls : List Request) → breaks flat q cmds (alone s.env (values_in (items_all flat q cur at k cmds) (front ++ tail)) (results_in (items_all flat q cur at k cmds) (front ++ tail)) calls) ≡ true
   pub asks : (tail : List Value) (calls : List Request) → made ≡ s.calls ++ on_requests (passages flat q cmds true (alone s.env (values_in (items_all flat q cur at k cmds) (front ++ tail)) (results_in (items_all flat q cur at k cmds) (front ++ tail)) calls))
   pub gets : (tail : List Value) (calls : List Request) →
@@ -82,11 +84,11 @@ or_right false b h = h
 
 -- the command that fails
 shards_here : (flat : Limited) (q : FlatProc) (cur : Cur) (at k : ℕ) (cmd : FlatCmd) (after : List FlatCmd) (s : State) (r : Result) (calls : List Request) → fail cmd s ≡ Some (r, calls) →
-    AreSorts (chosen (items_all flat q cur at k (cmd ∷ after))) → Shards flat q cur at k (cmd ∷ after) s calls (call_bit cmd)
-shards_here flat q cur at k (Assign pairs) after s r calls h a = cc
-shards_here flat q cur at k (Havoc xs) after s r calls h a = cc
-shards_here flat q cur at k (Assume e) after s r calls h a = cc
-shards_here flat q cur at k (Assert p n e) after s r calls h a =
+    AreSorts (chosen (items_all flat q cur at k (cmd ∷ after))) → s.values ≡ [] → Shards flat q cur at k (cmd ∷ after) s calls (call_bit cmd)
+shards_here flat q cur at k (Assign pairs) after s r calls h a z = cc
+shards_here flat q cur at k (Havoc xs) after s r calls h a z = cc
+shards_here flat q cur at k (Assume e) after s r calls h a z = cc
+shards_here flat q cur at k (Assert p n e) after s r calls h a z =
     let ys = items_all flat q cur (at + 1) k after in
     let off : holds s.env e ≡ false = by (holds s.env e) refl h in
     let S : List Value → List Request → State = λ tail cs. alone s.env (values_in (Check at (over_versions cur e) ∷ ys) tail) (results_in (Check at (over_versions cur e) ∷ ys) tail) cs in
@@ -95,6 +97,7 @@ shards_here flat q cur at k (Assert p n e) after s r calls h a =
         subst (λ (b : Bool). Quiet (behind (passages flat q after) true (S tail cs) (if b then Some (S tail cs) else None))) (sym off) (quiet_cmds flat q after (S tail cs)) in
     record {
       front = []; first = []; rest = chosen ys; split = refl; sorts = refl; size = refl;
+      takes = λ tail. prefix_none s.values (values_in (items_all flat q cur at k (Assert p n e ∷ after)) tail) z;
       breaks_is = λ tail cs. ap (λ b. not b || test_some (breaks flat q after) (pass flat q (Assert p n e) (S tail cs))) off;
       asks = λ tail cs. end.0 ∙ sym (append-nil s.calls) ∙ ap (λ x. s.calls ++ x) (sym (still tail cs).0);
       gets = λ tail cs. ap (λ x. map blamed (map some x)) end.1 ∙ ap (map blamed) (sym (still tail cs).1) }
@@ -102,7 +105,7 @@ shards_here flat q cur at k (Assert p n e) after s r calls h a =
     by : (b : Bool) → holds s.env e ≡ b → (if b then None else over p n s.calls s.results) ≡ Some (r, calls) → holds s.env e ≡ false
     by true e2 k2 = cc
     by false e2 k2 = e2
-shards_here flat q cur at k (Call p args outs) after s r calls h a =
+shards_here flat q cur at k (Call p args outs) after s r calls h a z =
     let own = callee_outs flat p in
     let ys = items_all flat q (cur_after flat cur k (Call p args outs)) (at + 1) (next_after flat k (Call p args outs)) after in
     let items = items_all flat q cur at k (Call p args outs ∷ after) in
@@ -112,6 +115,7 @@ shards_here flat q cur at k (Call p args outs) after s r calls h a =
     let off : (tail : List Value) (cs : List Request) → Quiet (passages flat q after false (S tail cs)) = λ tail cs. quiet_cmds flat q after (S tail cs) in
     record {
       front = AtomValue (BoolAtom true) ∷ []; first = bool_sort ∷ []; rest = (own ++ changed_sorts flat p) ++ chosen ys; split = refl; sorts = refl; size = refl;
+      takes = λ tail. prefix_none s.values (values_in items (ins tail)) z;
       breaks_is = λ tail cs. refl;
       asks = λ tail cs. end.0 ∙ ap (λ x. s.calls ++ request s p args ∷ x) (sym (off tail cs).0);
       gets = λ tail cs. end.1 ∙ ap (λ x. Some (Broken 0 0) ∷ map blamed x) (sym (off tail cs).1) }
@@ -150,6 +154,7 @@ shards_next flat q cur at k c cmds s m made count h r =
       split = chosen_append xs ys ∙ ap (λ z. chosen xs ++ z) r.split ∙ sym (append_assoc (chosen xs) r.first r.rest);
       sorts = sorts_both (chosen xs) r.first t.ins r.front t.sorts r.sorts;
       size = length-append (chosen xs) r.first ∙ ap (λ i. length (chosen xs) + i) r.size;
+      takes = λ tail. prefix_then u.values m.values (ws tail) s.values u.values_are (r.takes tail) ∙ ap (take (length s.values)) (sym (vs_are tail));
       breaks_is = λ tail cs. or_right (breaks_at c (S tail cs)) (test_some (breaks flat q cmds) (pass flat q c (S tail cs))) (ap (test_some (breaks flat q cmds)) (goes tail cs) ∙ r.breaks_is tail (cs ++ u.calls));
       asks = λ tail cs.
         r.asks tail (cs ++ u.calls) ∙ ap (λ x. x ++ on_requests (more tail cs)) u.calls_are ∙ append_assoc s.calls u.calls (on_requests (more tail cs))
@@ -160,13 +165,13 @@ shards_next flat q cur at k c cmds s m made count h r =
         ∙ sym (ap (map blamed) (ap on_results (all tail cs) ∙ results_append (pa tail cs) (more tail cs) ∙ ap (λ x. x ++ on_results (more tail cs)) (got tail cs)) ∙ map-append blamed (map some u.results) (on_results (more tail cs))) }
 
 pub shards : (flat : Limited) (q : FlatProc) (cur : Cur) (at k : ℕ) (before : List FlatCmd) (cmd : FlatCmd) (after : List FlatCmd) (s m : State) (r : Result) (calls : List Request) → pass_all flat q before s ≡ Some m → fail cmd m ≡ Some (r, calls) →
-    AreSorts (chosen (items_all flat q cur at k (before ++ cmd ∷ after))) → Shards flat q cur at k (before ++ cmd ∷ after) s calls (settled_count flat q cur at k before cmd)
-shards flat q cur at k [] cmd after s m r calls p h a =
+    AreSorts (chosen (items_all flat q cur at k (before ++ cmd ∷ after))) → m.values ≡ [] → Shards flat q cur at k (before ++ cmd ∷ after) s calls (settled_count flat q cur at k before cmd)
+shards flat q cur at k [] cmd after s m r calls p h a z =
     let e : s ≡ m = cc in
     let none : call_bit cmd ≡ 0 + call_bit cmd = omega arith in
     subst (λ (i : ℕ). Shards flat q cur at k (cmd ∷ after) s calls i) none
-    (subst (λ (x : State). Shards flat q cur at k (cmd ∷ after) x calls (call_bit cmd)) (sym e) (shards_here flat q cur at k cmd after m r calls h a))
-shards flat q cur at k (c ∷ before) cmd after s m r calls p h a =
+    (subst (λ (x : State). Shards flat q cur at k (cmd ∷ after) x calls (call_bit cmd)) (sym e) (shards_here flat q cur at k cmd after m r calls h a z))
+shards flat q cur at k (c ∷ before) cmd after s m r calls p h a z =
     let t = and_then_some (pass_all flat q before) (pass flat q c s) m p in
     let cmds = before ++ cmd ∷ after in
     let xs = items_of flat q cur at k c in
@@ -176,7 +181,7 @@ shards flat q cur at k (c ∷ before) cmd after s m r calls p h a =
     let all : length (chosen xs) + (length (chosen ys1) + call_bit cmd) ≡ length (chosen (xs ++ ys1)) + call_bit cmd =
         omega (arith, ap length (chosen_append xs ys1), length-append (chosen xs) (chosen ys1)) in
     subst (λ (i : ℕ). Shards flat q cur at k (c ∷ cmds) s calls i) all
-    (shards_next flat q cur at k c cmds s t.0 calls (length (chosen ys1) + call_bit cmd) t.1 (shards flat q (cur_after flat cur k c) (at + 1) (next_after flat k c) before cmd after t.0 m r calls t.2 h a2))
+    (shards_next flat q cur at k c cmds s t.0 calls (length (chosen ys1) + call_bit cmd) t.1 (shards flat q (cur_after flat cur k c) (at + 1) (next_after flat k c) before cmd after t.0 m r calls t.2 h a2 z))
 
 -- what is chosen for a block that fails: of the first variables, and anything for the others
 pub record BrokenBlock (flat : Limited) (q : FlatProc) (n : ℕ) (block : FlatBlock) (s : State) (made : List Request) (count : ℕ) : Type 0 where
@@ -186,17 +191,18 @@ pub record BrokenBlock (flat : Limited) (q : FlatProc) (n : ℕ) (block : FlatBl
   pub split : chosen (items_at flat q n) ≡ first ++ rest
   pub sorts : sorted_as first front ≡ true
   pub size : length first ≡ count
+  pub takes : (tail : List Value) → s.values ≡ take (length s.values) (values_in (items_at flat q n) (front ++ tail))
   pub breaks_is : (tail : List Value) → breaks flat q block.cmds (alone s.env (values_in (items_at flat q n) (front ++ tail)) (results_in (items_at flat q n) (front ++ tail)) []) ≡ true
   pub asks : (tail : List Value) → made ≡ s.calls ++ on_requests (passages flat q block.cmds true (alone s.env (values_in (items_at flat q n) (front ++ tail)) (results_in (items_at flat q n) (front ++ tail)) []))
   pub gets : (tail : List Value) → map blamed (map some s.results) ≡ map blamed (on_results (passages flat q block.cmds true (alone s.env (values_in (items_at flat q n) (front ++ tail)) (results_in (items_at flat q n) (front ++ tail)) [])))
 
 pub broken_front : (flat : Limited) (q : FlatProc) (n : ℕ) (block : FlatBlock) (before : List FlatCmd) (cmd : FlatCmd) (after : List FlatCmd) (s m : State) (r : Result) (calls : List Request) → slice_get q.blocks n ≡ Some block →
-    block.cmds ≡ before ++ cmd ∷ after → pass_all flat q before s ≡ Some m → fail cmd m ≡ Some (r, calls) → AreSorts (chosen (items_at flat q n)) → BrokenBlock flat q n block s calls (settled_count flat q (entry_cur flat q) 0 (entry_count flat q) before cmd)
-broken_front flat q n block before cmd after s m r calls at splits p h a =
+    block.cmds ≡ before ++ cmd ∷ after → pass_all flat q before s ≡ Some m → fail cmd m ≡ Some (r, calls) → AreSorts (chosen (items_at flat q n)) → m.values ≡ [] → BrokenBlock flat q n block s calls (settled_count flat q (entry_cur flat q) 0 (entry_count flat q) before cmd)
+broken_front flat q n block before cmd after s m r calls at splits p h a none =
     let cmds_are : (block_at q n).cmds ≡ before ++ cmd ∷ after = ap (λ (o : Option FlatBlock). (block_or o).cmds) at ∙ splits in
     let items = items_all flat q (entry_cur flat q) 0 (entry_count flat q) (before ++ cmd ∷ after) in
     let items_are : items_at flat q n ≡ items = ap (items_all flat q (entry_cur flat q) 0 (entry_count flat q)) cmds_are in
-    let z = shards flat q (entry_cur flat q) 0 (entry_count flat q) before cmd after s m r calls p h (subst (λ (xs : List Item). AreSorts (chosen xs)) items_are a) in
+    let z = shards flat q (entry_cur flat q) 0 (entry_count flat q) before cmd after s m r calls p h (subst (λ (xs : List Item). AreSorts (chosen xs)) items_are a) none in
     let same : (tail : List Value) → passages flat q block.cmds true (alone s.env (values_in (items_at flat q n) (z.front ++ tail)) (results_in (items_at flat q n) (z.front ++ tail)) [])
             ≡ passages flat q (before ++ cmd ∷ after) true (alone s.env (values_in items (z.front ++ tail)) (results_in items (z.front ++ tail)) []) = λ tail.
         ap (λ (xs : List Item). passages flat q block.cmds true (alone s.env (values_in xs (z.front ++ tail)) (results_in xs (z.front ++ tail)) [])) items_are
@@ -205,6 +211,7 @@ broken_front flat q n block before cmd after s m r calls at splits p h a =
       front = z.front; first = z.first; rest = z.rest;
       split = ap chosen items_are ∙ z.split;
       sorts = z.sorts; size = z.size;
+      takes = λ tail. z.takes tail ∙ ap (λ (xs : List Item). take (length s.values) (values_in xs (z.front ++ tail))) (sym items_are);
       breaks_is = λ tail.
         ap (λ (xs : List Item). breaks flat q block.cmds (alone s.env (values_in xs (z.front ++ tail)) (results_in xs (z.front ++ tail)) [])) items_are
         ∙ ap (λ cs. breaks flat q cs (alone s.env (values_in items (z.front ++ tail)) (results_in items (z.front ++ tail)) [])) splits ∙ z.breaks_is tail [];
@@ -216,14 +223,15 @@ pub record Broken_block (flat : Limited) (q : FlatProc) (n : ℕ) (block : FlatB
   pub given : Given
   pub number_is : given.number ≡ n
   pub shaped : Shaped flat q given
+  pub takes : s.values ≡ take (length s.values) given.values
   pub breaks_is : breaks flat q block.cmds (alone s.env given.values given.results []) ≡ true
   pub asks : made ≡ s.calls ++ on_requests (passages flat q block.cmds true (alone s.env given.values given.results []))
   pub gets : map blamed (map some s.results) ≡ map blamed (on_results (passages flat q block.cmds true (alone s.env given.values given.results [])))
 
 pub broken_block : (flat : Limited) (q : FlatProc) (n : ℕ) (block : FlatBlock) (before : List FlatCmd) (cmd : FlatCmd) (after : List FlatCmd) (s m : State) (r : Result) (calls : List Request) → slice_get q.blocks n ≡ Some block →
-    block.cmds ≡ before ++ cmd ∷ after → pass_all flat q before s ≡ Some m → fail cmd m ≡ Some (r, calls) → AreSorts (chosen (items_at flat q n)) → Broken_block flat q n block s calls
-broken_block flat q n block before cmd after s m r calls at splits p h a =
-    let z = broken_front flat q n block before cmd after s m r calls at splits p h a in
+    block.cmds ≡ before ++ cmd ∷ after → pass_all flat q before s ≡ Some m → fail cmd m ≡ Some (r, calls) → AreSorts (chosen (items_at flat q n)) → m.values ≡ [] → Broken_block flat q n block s calls
+broken_block flat q n block before cmd after s m r calls at splits p h a none =
+    let z = broken_front flat q n block before cmd after s m r calls at splits p h a none in
     let tail = zeros z.rest in
     let ins = z.front ++ tail in
     let tail_sorts = zeros_have z.rest (sorts_behind z.first z.rest (subst AreSorts z.split a)) in
@@ -231,4 +239,4 @@ broken_block flat q n block before cmd after s m r calls at splits p h a =
       given = record { number = n; values = values_in (items_at flat q n) ins; results = results_in (items_at flat q n) ins; choices = falses (choices_at q n) };
       number_is = refl;
       shaped = record { ins = ins; sorts = ap (λ (ss : List Sort). sorted_as ss ins) z.split ∙ sorts_both z.first z.rest z.front tail z.sorts tail_sorts; values_are = refl; results_are = refl; count = falses_count (choices_at q n) };
-      breaks_is = z.breaks_is tail; asks = z.asks tail; gets = z.gets tail }
+      takes = z.takes tail; breaks_is = z.breaks_is tail; asks = z.asks tail; gets = z.gets tail }

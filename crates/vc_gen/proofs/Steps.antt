@@ -34,7 +34,7 @@ use Rattle.passive_form.specs.Versions.{look_at, Defined}
 use Rattle.vc_gen.specs.declared.parts.Draft.{Draft}
 use Rattle.vc_gen.specs.declared.parts.SiteTerm.{SiteTerm}
 use Rattle.vc_gen.specs.declared.parts.FailTerm.{FailTerm}
-use Rattle.vc_gen.specs.Standing.{Later, Plain, AreOf}
+use Rattle.vc_gen.specs.Standing.{Later, Plain, AreOf, variables_in}
 use Rattle.vc_gen.specs.Translate.{term_of, value_of, look_terms, NodeReads, ReadsFit, Says as ExprSays}
 use Rattle.vc_gen.specs.Items.{bool_sort, sort_in, ReadsIn, AllRead, AllThere, AreSorts, ItemFits, made, chosen, FailMeans, inputs, on_end, fails_in, sites_in, asserts_in}
 use Rattle.vc_gen.specs.Emit.{Stands, ItemReady, Meant, Fresh, Bit, IsBoth, IsNot, Passed, zero_node, fail_value, Says, Step}
@@ -119,7 +119,7 @@ module _ (cs : List ℕ) (block : ℕ) (old : List TermNode) (d : Draft) where
         are = (s.sort ∙ sort_is (whole_sort e) s.there, tt);
         cond = sort_later old new d.cond bool_sort later st.cond; fails = sort_later old new d.fails bool_sort later st.fails;
         next = omega arith; below = plain.below d.next st.next;
-        sites = []; sites_there = tt; sites_of = tt; sites_behind = sym (append-nil d.sites); asserts = []; asserts_there = tt; asserts_behind = sym (append-nil d.asserts);
+        sites = []; sites_there = tt; sites_of = tt; sites_behind = sym (append-nil d.sites); numbered = refl; calls = omega arith; variables = plain.numbers ∙ sym (append-nil (variables_in old)); asserts = []; asserts_there = tt; asserts_behind = sym (append-nil d.asserts);
         says = λ a consts vals f m.
           let back = meant_back a old new cs d.versions (t ∷ []) vs r.csorts r.vsorts consts vals later st.consts st.versions is m in
           record {
@@ -137,7 +137,7 @@ module _ (cs : List ℕ) (block : ℕ) (old : List TermNode) (d : Draft) where
         later = later; more = t ∷ []; versions = is; are = (sorted, tt);
         cond = sort_later old new d.cond bool_sort later st.cond; fails = sort_later old new d.fails bool_sort later st.fails;
         next = omega arith; below = plain.below d.next st.next;
-        sites = []; sites_there = tt; sites_of = tt; sites_behind = sym (append-nil d.sites); asserts = []; asserts_there = tt; asserts_behind = sym (append-nil d.asserts);
+        sites = []; sites_there = tt; sites_of = tt; sites_behind = sym (append-nil d.sites); numbered = refl; calls = omega arith; variables = plain.numbers ∙ sym (append-nil (variables_in old)); asserts = []; asserts_there = tt; asserts_behind = sym (append-nil d.asserts);
         says = λ a consts vals f m. record {
             defined = (m.each v t (ap (λ xs. slice_get xs v) is ∙ pushed_at d.versions t v (length r.vsorts) r.fit.0 (are_count old d.versions r.vsorts st.versions)) ∙ zero_is a, tt);
             on = bit_later old new a d.cond later st.cond;
@@ -155,7 +155,7 @@ module _ (cs : List ℕ) (block : ℕ) (old : List TermNode) (d : Draft) where
         later = later; more = []; versions = sym (append-nil d.versions); are = tt;
         cond = b.sort; fails = sort_later old new d.fails bool_sort later st.fails;
         next = omega arith; below = p2.below d.next (p1.below d.next st.next);
-        sites = []; sites_there = tt; sites_of = tt; sites_behind = sym (append-nil d.sites); asserts = []; asserts_there = tt; asserts_behind = sym (append-nil d.asserts);
+        sites = []; sites_there = tt; sites_of = tt; sites_behind = sym (append-nil d.sites); numbered = refl; calls = omega arith; variables = p2.numbers ∙ p1.numbers ∙ sym (append-nil (variables_in old)); asserts = []; asserts_there = tt; asserts_behind = sym (append-nil d.asserts);
         says = λ a consts vals f m.
           let back = meant_back a old new cs d.versions [] d.versions r.csorts r.vsorts consts vals later st.consts st.versions (sym (append-nil d.versions)) m in
           record {
@@ -184,7 +184,7 @@ module _ (cs : List ℕ) (block : ℕ) (old : List TermNode) (d : Draft) where
         later = later; more = []; versions = vs; are = tt;
         cond = w.cond; fails = w.fails;
         next = omega (arith, same_next); below = subst (λ (k : ℕ). IsTrue (below k new)) (sym same_next) (p3.below d.next (p2.below d.next (p1.below d.next st.next)));
-        sites = []; sites_there = tt; sites_of = tt; sites_behind = same_sites;
+        sites = []; sites_there = tt; sites_of = tt; sites_behind = same_sites; numbered = refl; calls = omega (arith, ap (λ (x : Draft). x.calls) w.draft_is); variables = p3.numbers ∙ p2.numbers ∙ p1.numbers ∙ sym (append-nil (variables_in old));
         asserts = record { block = block; position = p; node = t } ∷ []; asserts_there = (w.sort, tt); asserts_behind = is ∙ ap (λ xs. xs ++ record { block = block; position = p; node = t } ∷ []) same_asserts;
         says = λ a consts vals f m.
           let f2 = fits_before a m2 new l3 f in

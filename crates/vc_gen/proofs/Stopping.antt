@@ -1,6 +1,7 @@
 -- What a run that fails settles.
+use Rattle.vc_gen.proofs.Prefixes.{prefix_then}
 use Rattle.std.proofs.Common.{◌≡◌, ℕ, zero, suc, ◌+◌, ◌<◌, Bool, true, false, ◌&&◌, List, [], ◌∷◌, ◌++◌, map, length, arith, sym, ◌∙◌, ap, refl, subst, inl, inr, replicate, append_assoc, length-append}
-use Rattle.std.specs.Prelude.{Option, None, Some, slice_get, if◌then◌else◌, IsTrue, IsSome}
+use Rattle.std.specs.Prelude.{Option, None, Some, slice_get, if◌then◌else◌, IsTrue, IsSome, take}
 use Rattle.std.specs.Option.{option_and_then}
 use Rattle.hy_val.specs.Values.{at, is_on}
 use Rattle.hy_val.specs.declared.sort.Sort.{Sort}
@@ -25,7 +26,7 @@ use Rattle.vc_gen.proofs.Arrives.{Last, arrives}
 use Rattle.vc_gen.proofs.Failures.{Failed, failed, failed_run}
 use Rattle.vc_gen.specs.BlockPlans.{recast}
 use Rattle.vc_gen.proofs.Recasting.{fails_again}
-use Rattle.vc_gen.specs.Passages.{passages, on_results, Passage, all_passages, on_requests, blame, blamed}
+use Rattle.vc_gen.specs.Passages.{passages, on_results, Passage, all_passages, on_requests, blame, blamed, along}
 use Rattle.passive_form.specs.Making.{block_or, entry_cur, entry_count}
 use Rattle.vc_gen.specs.declared.parts.Wait.{Wait}
 use Rattle.vc_gen.specs.declared.parts.EdgeTerm.{EdgeTerm}
@@ -41,7 +42,7 @@ use Rattle.vc_gen.proofs.Growth.{map_later}
 use Rattle.vc_gen.proofs.Joining.{sorts_both, reads_append}
 use Rattle.vc_gen.proofs.Shapes.{shaped_used, length_have}
 use Rattle.vc_gen.proofs.Laying.{laid, dull, dull_shaped, read_split}
-use Rattle.vc_gen.proofs.Ends.{first_one, started, some_state, extended_old, same_requests, same_results, some_lists}
+use Rattle.vc_gen.proofs.Ends.{first_one, started, some_state, extended_old, same_requests, same_results, some_lists, same_walk}
 use Rattle.vc_gen.proofs.Shards.{broken_block, BrokenBlock, broken_front}
 use Rattle.vc_gen.proofs.BlockPlanning.{stopped}
 use Rattle.vc_gen.specs.Plans.{Follows, RowFits, FailPlan, FailsPlanned, settled_count, settled_value, opens}
@@ -85,7 +86,7 @@ module _ (flat : Limited) (q : FlatProc) (order : List ℕ) (actuals : Actuals) 
       let r = run.run in
       let n = last_of 0 path in
       let at_n : slice_get q.blocks n ≡ Some r.last = walk_last flat q 0 path places (record s { results = results }) (Some r.last) r.arrived r.walks in
-      let z = broken_front flat q n r.last r.before r.at r.after r.arrived r.over (Broken proc number) calls at_n r.splits r.passes r.fails (are_sorts n) in
+      let z = broken_front flat q n r.last r.before r.at r.after r.arrived r.over (Broken proc number) calls at_n r.splits r.passes r.fails (are_sorts n) r.taken in
       let L : Given → Type 0 = FailsSo flat q n z.front in
       let stops : (o : Given) → o.number ≡ n → L o → Last flat q o r.arrived calls = λ o num h.
           let same : alone r.arrived.env o.values o.results [] ≡ alone r.arrived.env (values_in (items_at flat q n) (z.front ++ h.0)) (results_in (items_at flat q n) (z.front ++ h.0)) [] =
@@ -95,6 +96,7 @@ module _ (flat : Limited) (q : FlatProc) (order : List ℕ) (actuals : Actuals) 
             at = ap (slice_get q.blocks) num ∙ at_n;
             breaks_is = ap (breaks flat q r.last.cmds) same ∙ z.breaks_is h.0;
             asks = z.asks h.0 ∙ ap (λ x. r.arrived.calls ++ on_requests (passages flat q r.last.cmds true x)) (sym same);
+            takes = z.takes h.0 ∙ ap (take (length r.arrived.values)) (sym h.1);
             gets = z.gets h.0 ∙ ap (λ x. map blamed (on_results (passages flat q r.last.cmds true x))) (sym same) } in
       let walks : walk flat q (0 ∷ path) places (record s { results = results }) ≡ Some (slice_get q.blocks n, r.arrived) = r.walks ∙ ap (λ (o : Option FlatBlock). Some (o, r.arrived)) (sym at_n) in
       let p = stopped flat q (Shaped flat q) L (shaped_used flat q) order n r.arrived calls stops onward 0 path places (record s { results = results }) first walks refl in
@@ -123,11 +125,18 @@ module _ (flat : Limited) (q : FlatProc) (order : List ℕ) (actuals : Actuals) 
           let ms = map (site_value c new) sites in
           let none : s.calls ≡ [] = ap (λ (x : State). x.calls) st.rest in
           let calls_same : SameCalls ms ps = subst (λ (v : Env). SameCalls ms (all_passages flat q (seen flat q v givens (first_edge v)))) env_is (b.calls_are c f_new) in
-          record {
+          let m2 = failed flat q s.env givens (first_edge s.env) 0 s.env (first_one s.env) found.broke in
+          let same_path : path ≡ m2.way.path =
+              same_walk flat q 0 path places m2.way.path m2.way.places (record s { results = results }) (alone s.env (m2.way.values ++ m2.values) (m2.way.results ++ (m2.results ++ m2.more)) []) (Some r.last) (slice_get q.blocks m2.c) r.arrived
+                  (alone m2.at_env m2.values (m2.results ++ m2.more) m2.way.calls) r.walks (m2.way.goes m2.values (m2.results ++ m2.more)) (sym found.edges_are ∙ sym m2.edges_are) in
+          (record {
             same = same;
             fit = f_new;
             fails_is = b.fails_is c f_new ∙ ap (λ (v : Env). any_breaks flat q (seen flat q v givens (first_edge v))) env_is ∙ found.broke;
             passed_are = sym (b.edges_are c f_new ∙ ap (λ (v : Env). live_edges flat q v givens (first_edge v)) env_is ∙ found.edges_are);
             calls_are = found.calls_are ∙ ap (λ (x : List Request). x ++ on_requests ps) none ∙ same_requests ms ps calls_same;
             results_are = some_lists (map blame results) (map blame (given_back ms))
-                (sym (fused results) ∙ found.results_are ∙ ap (map blamed) (same_results ms ps calls_same) ∙ fused (given_back ms)) } }
+                (sym (fused results) ∙ found.results_are ∙ ap (map blamed) (same_results ms ps calls_same) ∙ fused (given_back ms)) },
+           prefix_then st.first s.values (along givens (0 ∷ path)) vals st.values_are
+               (found.values_are ∙ ap (take (length s.values)) (m2.along_are ∙ ap (λ (x : List ℕ). along givens (0 ∷ x)) (sym same_path)))
+           ∙ ap (λ x. take (length vals) (x ++ along givens (0 ∷ path))) (sym first_read)) }

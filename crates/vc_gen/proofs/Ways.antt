@@ -1,4 +1,5 @@
 -- Ways part, and edges become terms.
+use Rattle.vc_gen.proofs.Pushing.{fresh_numbers}
 use Rattle.std.proofs.Common.{◌≡◌, ℕ, zero, suc, ◌+◌, ◌-◌, ◌<◌, ◌≤◌, Bool, true, false, not, ◌&&◌, List, [], ◌∷◌, ◌++◌, map, length, drop, arith, sym, ◌∙◌, ap, refl, subst, append-nil, append_assoc, length-append}
 use Rattle.std.specs.Prelude.{Option, None, Some, slice_get, slice_index, slice_index_or, IsTrue, IsSome}
 use Rattle.hy_val.specs.Values.{at, is_on}
@@ -10,7 +11,7 @@ use Rattle.hy_term.specs.Variables.{below, reads}
 use Rattle.hy_term.specs.declared.node.TermNode.{TermNode}
 use Rattle.passive_form.specs.Local.{sorted_as}
 use Rattle.vc_gen.specs.declared.parts.Draft.{Draft}
-use Rattle.vc_gen.specs.Standing.{Later, Plain, AreOf}
+use Rattle.vc_gen.specs.Standing.{Later, Plain, AreOf, variables_in}
 use Rattle.vc_gen.specs.Items.{bool_sort}
 use Rattle.vc_gen.specs.Emit.{IsBoth, IsNot, Fresh}
 use Rattle.vc_gen.specs.Edges.{Parted, Framed}
@@ -26,6 +27,7 @@ pub record Choice (old : List TermNode) (d : Draft) (new : List TermNode) (e : D
   pub frame : Framed d e
   pub next : e.next ≡ d.next + 1
   pub below : IsTrue (below e.next new)
+  pub numbers : variables_in new ≡ variables_in old ++ d.next ∷ []
   pub fit : (a : ℕ → Value) → IsTrue (fits a old) → sorted_as (bool_sort ∷ []) (a d.next ∷ []) ≡ true → IsTrue (fits a new)
 
 pub framed_by : (d e : Draft) (vs : List ℕ) (n : ℕ) → e ≡ record d { versions = vs; next = n } → Framed d e
@@ -47,6 +49,7 @@ choice old new d e s t is f v =
       frame = framed_by d e (d.versions ++ f2.more) (d.next + 1) f2.draft_is;
       next = ap (λ (x : Draft). x.next) f2.draft_is;
       below = f2.below;
+      numbers = fresh_numbers old new d e (bool_sort ∷ []) f2;
       fit = f2.fit }
   where
     one : (v w : Value) → v ∷ [] ≡ w ∷ [] → v ≡ w
@@ -62,6 +65,7 @@ parted old m1 m2 m3 new d e left c other live rest hl l1 ch l2 p2 b2 l3 p3 b3 l4
       frame = ch.frame;
       next = ch.next;
       below = p4.below e.next (p3.below e.next (p2.below e.next ch.below));
+      numbers = p4.numbers ∙ p3.numbers ∙ p2.numbers ∙ ch.numbers;
       live_sort = sort_later m3 new live bool_sort l4 b3.sort;
       rest_sort = b4.sort;
       live_is = λ a f.

@@ -1,4 +1,7 @@
 -- The blocks become terms, one after the other.
+use Rattle.flat_prog.specs.Sites.{numbers_from}
+use Rattle.vc_gen.proofs.Numbers.{numbers_then}
+use Rattle.vc_gen.proofs.Traces.{no_places}
 use Rattle.std.proofs.Common.{◌≡◌, ℕ, zero, suc, ◌+◌, ◌<◌, ◌≤◌, Bool, true, false, ◌||◌, List, [], ◌∷◌, ◌++◌, map, length, take, arith, sym, ◌∙◌, ap, refl, subst, inr, append-nil, append_assoc, length-append}
 use Rattle.std.specs.Prelude.{Option, None, Some, slice_get, slice_index, slice_index_or, IsTrue, IsSome}
 use Rattle.std.proofs.lemmas.List.{map-append}
@@ -15,32 +18,32 @@ use Rattle.passive_form.specs.Limited.{Limited}
 use Rattle.flat_prog.specs.declared.block.FlatCmd.{FlatCmd}
 use Rattle.flat_prog.specs.declared.block.FlatCmd.TheVariants.{Assign, Havoc, Assume, Assert, Call}
 use Rattle.passive_form.specs.Local.{State, alone, sorted_as, pass, cmds_of}
-use Rattle.vc_gen.specs.Passages.{Passage, passage_at, behind, passages, passages_seen, all_passages}
+use Rattle.vc_gen.specs.Passages.{Passage, passage_at, behind, passages, passages_seen, all_passages, places_at, places_seen, all_places}
 use Rattle.vc_gen.specs.Fold.{Edge, Given, Seen, seen_at, seen, reached, entered, step, fold, live_edges}
 use Rattle.vc_gen.specs.Breaking.{breaks_seen, any_breaks}
 use Rattle.vc_gen.specs.Alike.{Alike}
 use Rattle.vc_gen.proofs.Alikes.{alike_same, alike_reached, alike_entered}
-use Rattle.vc_gen.proofs.Marks.{live_push, alike_out, passages_push}
+use Rattle.vc_gen.proofs.Marks.{live_push, alike_out, passages_push, places_push}
 use Rattle.vc_gen.proofs.Breaches.{seen_push, any_push, alike_breaks}
 use Rattle.passive_form.specs.declared.PassiveBlock.{PassiveBlock}
 use Rattle.flat_prog.specs.Program.{variables_of}
 use Rattle.passive_form.specs.Making.{block_or, passive_block, passive_blocks}
-use Rattle.passive_form.specs.Laws.{cmds_there}
+use Rattle.passive_form.specs.Laws.{cmds_there, AllThere}
 use Rattle.vc_gen.specs.declared.parts.Draft.{Draft}
 use Rattle.vc_gen.specs.declared.parts.Wait.{Wait}
 use Rattle.vc_gen.specs.declared.parts.EdgeTerm.{EdgeTerm}
 use Rattle.vc_gen.specs.Items.{SiteMeans}
 use Rattle.vc_gen.specs.Emit.{site_value}
-use Rattle.vc_gen.specs.Exact.{true_edges, SameCalls}
-use Rattle.vc_gen.specs.Standing.{Later, AreOf}
+use Rattle.vc_gen.specs.Exact.{true_edges, SameCalls, true_sites}
+use Rattle.vc_gen.specs.Standing.{Later, AreOf, variables_in}
 use Rattle.vc_gen.specs.Inputs.{sorts_of_block, sorts_of_blocks, given_at, givens_at}
 use Rattle.vc_gen.specs.Instance.{all_at, edges_at}
 use Rattle.vc_gen.specs.Fitting.{BlockFits, AllFit, block_sorts, blocks_sorts}
-use Rattle.vc_gen.specs.Flowing.{Stage, BlockReady, BlockSays, BlockDone, AllThere, WentSays, FlowReady, Went, WentAll}
+use Rattle.vc_gen.specs.Flowing.{Stage, BlockReady, BlockSays, BlockDone, WentSays, FlowReady, Went, WentAll}
 use Rattle.vc_gen.proofs.Looking.{take_at, take_all}
 use Rattle.vc_gen.proofs.Growth.{later_same, later_then}
-use Rattle.vc_gen.proofs.Joining.{sites_later, sites_stay, sites_there_append, fits_before, reads_append, length_reads, sorts_left, sorts_right}
-use Rattle.vc_gen.proofs.Exacting.{marks_later, marks_stay, marks_there, marks_append, same_both}
+use Rattle.vc_gen.proofs.Joining.{sites_later, sites_stay, sites_there_append, fits_before, reads_append, length_reads, sorts_left, sorts_right, fails_stay, fails_there_append}
+use Rattle.vc_gen.proofs.Exacting.{marks_later, marks_stay, marks_there, marks_append, same_both, placed_append, placed_later}
 use Rattle.vc_gen.proofs.Blockwise.{alike_next, givens_push}
 use Rattle.vc_gen.proofs.Signing.{signed_later, signed_both}
 
@@ -61,14 +64,15 @@ pub went_start : (cs : List ℕ) (spare : Wait) (old : List TermNode) (d : Draft
 went_start cs spare old d edges first bs r = record {
   later = later_same old r.stage.sound;
   marks = []; marks_are = sym (append-nil edges); marks_there = tt; sites = []; sites_are = sym (append-nil d.sites); sites_there = tt;
-  next = omega arith;
+  asserts = []; asserts_are = sym (append-nil d.asserts); asserts_there = tt;
+  next = omega arith; numbers = sym (append-nil (variables_in old));
   fit = λ a f h. f;
   stage = λ c g l h k. h;
   says = λ flat q order is there h k. record {
     alike = λ a dead f. alike_same (edges_at a old (all_at a old cs) first);
     fails = λ a dead f. or_none (is_on (value a old d.fails));
     edges = λ a dead f. refl;
-    calls = λ a dead f. tt; signed = tt } }
+    calls = λ a dead f. tt; places = λ a dead f. refl; signed = tt } }
   where
     or_none : (b : Bool) → b ≡ (b || false)
     or_none true = refl
@@ -160,6 +164,17 @@ alike_calls flat q d g es fs ms h k =
     by true e x = subst (λ (v : Env). SameCalls ms (passages flat q (cmds_of (slice_get q.blocks g.number)) true (alone v g.values g.results []))) (e refl) x
     by false e x = off_any flat q ms (cmds_of (slice_get q.blocks g.number)) (alone (entered g.number d es) g.values g.results []) (alone (entered g.number d fs) g.values g.results []) x
 
+alike_places : (flat : Limited) (q : FlatProc) (d : Env) (g : Given) (es fs : List Edge) → Alike es fs → places_seen flat q (seen_at d g es) ≡ places_seen flat q (seen_at d g fs)
+alike_places flat q d g es fs h =
+    ap (λ r. places_at g.number 0 (passages flat q (cmds_of (slice_get q.blocks g.number)) r (alone (entered g.number d es) g.values g.results []))) (alike_reached g.number es fs h)
+    ∙ by (reached g.number fs) (λ k. alike_entered g.number d d es fs h (inr k))
+  where
+    by : (r : Bool) → (r ≡ true → entered g.number d es ≡ entered g.number d fs) →
+        places_at g.number 0 (passages flat q (cmds_of (slice_get q.blocks g.number)) r (alone (entered g.number d es) g.values g.results []))
+        ≡ places_at g.number 0 (passages flat q (cmds_of (slice_get q.blocks g.number)) r (alone (entered g.number d fs) g.values g.results []))
+    by true e = ap (λ (v : Env). places_at g.number 0 (passages flat q (cmds_of (slice_get q.blocks g.number)) true (alone v g.values g.results []))) (e refl)
+    by false e = no_places flat q g.number 0 (cmds_of (slice_get q.blocks g.number)) (alone (entered g.number d es) g.values g.results []) ∙ sym (no_places flat q g.number 0 (cmds_of (slice_get q.blocks g.number)) (alone (entered g.number d fs) g.values g.results []))
+
 pub went_next : (cs : List ℕ) (spare : Wait) (old mid new : List TermNode) (d m e : Draft) (edges edges1 edges2 : List EdgeTerm) (first waits left : List Wait) (bs : List PassiveBlock) (i : ℕ) (x : PassiveBlock) → i < length bs → x ≡ slice_index_or bs i x →
     Went cs spare old d edges first bs i mid m edges1 waits → BlockDone cs spare mid m waits edges1 x new e edges2 left → Went cs spare old d edges first bs (i + 1) new e edges2 left
 went_next cs spare old mid new d m e edges edges1 edges2 first waits left bs i x l is h k =
@@ -176,7 +191,11 @@ went_next cs spare old mid new d m e edges edges1 edges2 first waits left bs i x
       sites = h.sites ++ k.sites;
       sites_are = k.sites_are ∙ ap (λ r. r ++ k.sites) h.sites_are ∙ append_assoc d.sites h.sites k.sites;
       sites_there = sites_there_append new h.sites k.sites (sites_stay mid new h.sites k.later h.sites_there) k.sites_there;
+      asserts = h.asserts ++ k.asserts;
+      asserts_are = k.asserts_are ∙ ap (λ r. r ++ k.asserts) h.asserts_are ∙ append_assoc d.asserts h.asserts k.asserts;
+      asserts_there = fails_there_append new h.asserts k.asserts (fails_stay mid new h.asserts k.later h.asserts_there) k.asserts_there;
       next = omega (arith, h.next, k.next, count);
+      numbers = numbers_then (variables_in old) (variables_in mid) (variables_in new) d.next m.next n1 n2 (length (blocks_sorts (take (i + 1) bs))) h.numbers h.next k.numbers count;
       fit = λ a f s.
         let split : reads a d.next (length (blocks_sorts (take (i + 1) bs))) ≡ reads a d.next n1 ++ reads a m.next n2 =
             ap (reads a d.next) count ∙ reads_append a d.next n1 n2 ∙ ap (λ j. reads a d.next n1 ++ reads a j n2) (sym h.next) in
@@ -217,6 +236,14 @@ went_next cs spare old mid new d m e edges edges1 edges2 first waits left bs i x
             ∙ ap (λ r. r ++ true_edges a new k.marks) (marks_later mid new a h.marks k.later h.marks_there ∙ w.edges a dead f1)
             ∙ ap (λ r. live_edges flat q dead (gs a) (start a) ++ r) (b.edges a dead f ∙ alike_out flat q dead (g a) (es a) fs (w.alike a dead f1))
             ∙ sym (ap (λ (x : List Given). live_edges flat q dead x (start a)) (row a) ∙ live_push flat q dead (gs a) (g a) (start a));
+          places = λ a dead f.
+            let fs = fold flat q dead (gs a) (start a) in
+            let f1 = fits_before a mid new k.later f in
+            let sn = seen flat q dead (gs a) (start a) in
+            placed_append a new h.sites k.sites
+            ∙ ap (λ r. r ++ true_sites a new k.sites) (placed_later mid new a h.sites k.later h.sites_there ∙ w.places a dead f1)
+            ∙ ap (λ r. all_places flat q sn ++ r) (b.places a dead f ∙ alike_places flat q dead (g a) (es a) fs (w.alike a dead f1))
+            ∙ sym (ap (λ (x : List Given). all_places flat q (seen flat q dead x (start a))) (row a) ∙ ap (all_places flat q) (seen_push flat q dead (gs a) (g a) (start a)) ∙ places_push flat q sn (seen_at dead (g a) fs));
           signed = signed_both flat new h.sites k.sites (signed_later flat mid new h.sites k.later w.signed) b.signed;
           calls = λ a dead f.
             let fs = fold flat q dead (gs a) (start a) in
@@ -242,7 +269,9 @@ went_whole cs spare old new d e edges edges1 first waits bs i l h =
     record {
       later = h.later;
       marks = h.marks; marks_are = h.marks_are; marks_there = h.marks_there; sites = h.sites; sites_are = h.sites_are; sites_there = h.sites_there;
+      asserts = h.asserts; asserts_are = h.asserts_are; asserts_there = h.asserts_there;
       next = h.next ∙ ap (λ xs. d.next + length (blocks_sorts xs)) all;
+      numbers = h.numbers ∙ ap (λ xs. variables_in old ++ numbers_from d.next (length (blocks_sorts xs))) all;
       fit = λ a f k. h.fit a f (ap (λ xs. sorted_as (blocks_sorts xs) (reads a d.next (length (blocks_sorts xs)))) all ∙ k);
       stage = h.stage;
       says = λ flat q order are there st fit.

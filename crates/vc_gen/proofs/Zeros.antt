@@ -1,4 +1,5 @@
 -- Zeros, and new variables that are versions.
+use Rattle.vc_gen.proofs.Pushing.{fresh_numbers}
 use Rattle.std.proofs.Common.{◌≡◌, ℕ, zero, suc, ◌+◌, ◌-◌, ◌<◌, Bool, true, false, not, ◌&&◌, ◌||◌, List, [], ◌∷◌, ◌++◌, map, length, arith, sym, ◌∙◌, ap, refl, subst, append-nil, append_assoc, length-append}
 use Rattle.std.specs.Prelude.{Option, None, Some, slice_get, IsTrue, IsSome, if◌then◌else◌}
 use Rattle.std.specs.Option.{option_and_then}
@@ -95,7 +96,7 @@ step_free cs block old new d e v t s r w p =
       cond = ap (sort_at new) cond_is ∙ sort_later old new d.cond bool_sort w.later st.cond; fails = ap (sort_at new) fails_is ∙ sort_later old new d.fails bool_sort w.later st.fails;
       next = ap (λ (x : Draft). x.next) w.draft_is; below = w.below;
       sites = []; sites_there = tt; sites_of = tt; sites_behind = ap (λ (x : Draft). x.sites) w.draft_is ∙ sym (append-nil d.sites);
-      asserts = []; asserts_there = tt; asserts_behind = ap (λ (x : Draft). x.asserts) w.draft_is ∙ sym (append-nil d.asserts);
+      numbered = refl; calls = omega (arith, ap (λ (x : Draft). x.calls) w.draft_is); variables = fresh_numbers old new d e (s ∷ []) w; asserts = []; asserts_there = tt; asserts_behind = ap (λ (x : Draft). x.asserts) w.draft_is ∙ sym (append-nil d.asserts);
       says = λ a consts vals f m.
         let is : vals v ≡ value a new t = m.each v t (ap (λ xs. slice_get xs v) p ∙ pushed_at d.versions t v (length r.vsorts) r.fit.0 (are_count old d.versions r.vsorts st.versions)) in
         let read : value a new t ∷ [] ≡ reads a d.next 1 = ap (map (at (values a new))) (sym more_is) ∙ w.read a in

@@ -1,4 +1,5 @@
 -- The edges that leave a block become terms.
+use Rattle.flat_prog.specs.Sites.{numbers_from}
 use Rattle.std.specs.Prelude.{◌≡◌, ℕ, ◌+◌, ◌-◌, ◌<◌, Bool, true, not, ◌&&◌, List, [], ◌∷◌, ◌++◌, map, length, drop, replicate, Some, IsTrue, IsSome}
 use Rattle.hy_val.specs.Values.{at, is_on}
 use Rattle.hy_val.specs.declared.sort.Sort.{Sort}
@@ -11,7 +12,7 @@ use Rattle.passive_form.specs.Local.{sorted_as}
 use Rattle.vc_gen.specs.Fold.{fan}
 use Rattle.vc_gen.specs.declared.parts.Draft.{Draft}
 use Rattle.vc_gen.specs.declared.parts.Wait.{Wait}
-use Rattle.vc_gen.specs.Standing.{Later, AreOf}
+use Rattle.vc_gen.specs.Standing.{Later, AreOf, variables_in}
 use Rattle.vc_gen.specs.Items.{bool_sort}
 use Rattle.vc_gen.specs.Instance.{all_at, edges_at}
 use Rattle.vc_gen.specs.Joins.{WaitThere, WaitsOf}
@@ -27,6 +28,7 @@ pub record Parted (old : List TermNode) (d : Draft) (left : ℕ) (new : List Ter
   pub frame : Framed d e
   pub next : e.next ≡ d.next + 1
   pub below : IsTrue (below e.next new)
+  pub numbers : variables_in new ≡ variables_in old ++ d.next ∷ []
   pub live_sort : sort_at new live ≡ Some bool_sort
   pub rest_sort : sort_at new rest ≡ Some bool_sort
   pub live_is : (a : ℕ → Value) → IsTrue (fits a new) → is_on (value a new live) ≡ (is_on (value a old left) && is_on (a d.next))
@@ -55,6 +57,7 @@ pub record FanSoFar (old : List TermNode) (d : Draft) (targets globals locals : 
   pub frame : Framed d e
   pub next : e.next ≡ d.next + i
   pub below : IsTrue (below e.next nodes)
+  pub numbers : variables_in nodes ≡ variables_in old ++ numbers_from d.next i
   pub left_sort : sort_at nodes left ≡ Some bool_sort
   pub more : List Wait
   pub waits_are : waits ≡ before ++ more
@@ -71,6 +74,7 @@ pub record Fanned (old : List TermNode) (d : Draft) (targets globals locals : Li
   pub frame : Framed d e
   pub next : e.next ≡ d.next + (length targets - 1)
   pub below : IsTrue (below e.next new)
+  pub numbers : variables_in new ≡ variables_in old ++ numbers_from d.next (length targets - 1)
   pub more : List Wait
   pub waits_are : waits ≡ before ++ more
   pub there : WaitsThere new more

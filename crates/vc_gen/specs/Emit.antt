@@ -1,4 +1,6 @@
 -- The items of a block become terms: under every assignment these have the values that the items say.
+use Rattle.flat_prog.specs.Sites.{numbers_from}
+use Rattle.vc_gen.specs.Passages.{places_from}
 use Rattle.std.specs.Prelude.{◌≡◌, ℕ, ◌+◌, ◌<◌, ◌≤◌, suc, Bool, true, false, not, ◌&&◌, ◌||◌, List, [], ◌∷◌, ◌++◌, map, length, take, drop, slice_get, slice_index, Some, IsTrue, IsSome}
 use Rattle.hy_val.specs.Exprs.{eval_by}
 use Rattle.hy_val.specs.Values.{at, is_on}
@@ -20,7 +22,7 @@ use Rattle.passive_form.specs.Versions.{from, look_at, Defined, eval_all}
 use Rattle.vc_gen.specs.declared.parts.Draft.{Draft}
 use Rattle.vc_gen.specs.declared.parts.SiteTerm.{SiteTerm}
 use Rattle.vc_gen.specs.declared.parts.FailTerm.{FailTerm}
-use Rattle.vc_gen.specs.Standing.{Later, Plain, AreOf}
+use Rattle.vc_gen.specs.Standing.{Later, Plain, AreOf, variables_in}
 use Rattle.vc_gen.specs.Items.{bool_sort, AllRead, made, chosen, ItemFits, ItemsFit, SiteMeans, FailMeans, inputs, on_end, fails_in, sites_in, asserts_in}
 
 -- the constants and the versions, whose sorts are known, and the bits stand in the nodes; new variables are above all others
@@ -117,8 +119,8 @@ abbrev pub AllBehind : ℕ → List ℕ → Type 0
 AllBehind n [] = Unit {0}
 AllBehind n (t ∷ ts) = (n < t) × AllBehind n ts
 
--- the terms of a site are there. What it is asked for stands before its variables, which are one node each, and no variable before them has
--- their numbers.
+-- The terms of a site are there. The run fails in it where it comes to it and the callee fails. What it is asked for stands before its variables,
+-- which are one node each, and no variable before them has their numbers.
 pub record SiteThere (nodes : List TermNode) (s : SiteTerm) : Type 0 where
   pub node : sort_at nodes s.node ≡ Some bool_sort
   pub args : (sorts : List Sort) × AreOf nodes s.args sorts
@@ -127,6 +129,8 @@ pub record SiteThere (nodes : List TermNode) (s : SiteTerm) : Type 0 where
   pub changed : (sorts : List Sort) × AreOf nodes s.changed sorts
   pub after : (sorts : List Sort) × AreOf nodes s.globals_after sorts
   pub fails : sort_at nodes s.fails ≡ Some bool_sort
+  pub failed : sort_at nodes s.failed ≡ Some bool_sort
+  pub fails_is : (a : ℕ → Value) → IsTrue (fits a nodes) → is_on (value a nodes s.fails) ≡ (is_on (value a nodes s.node) && is_on (value a nodes s.failed))
   pub variables : (sorts : List Sort) × AreVariables nodes (s.failed ∷ (s.outs ++ s.changed)) s.first sorts
   pub args_before : AllBefore s.failed s.args
   pub globals_before : AllBefore s.failed s.globals_before
@@ -161,6 +165,10 @@ SitesOf nodes (Check p e ∷ items) ts = SitesOf nodes items ts
 SitesOf nodes (Site p f args before outs changes after ∷ items) [] = ⊥
 SitesOf nodes (Site p f args before outs changes after ∷ items) (t ∷ ts) = SiteIs nodes p outs changes after t × SitesOf nodes items ts
 
+-- where a call stands: its block, and its number there
+abbrev pub site_place : SiteTerm → ℕ × ℕ
+site_place s = (s.block, s.call)
+
 -- what holds under an assignment that gives the versions these values
 pub record Says (cs : List ℕ) (block : ℕ) (old : List TermNode) (d : Draft) (items : List Item) (new : List TermNode) (e : Draft) (sites : List SiteTerm) (asserts : List FailTerm)
     (a : ℕ → Value) (consts : List Value) (vals : ℕ → Value) : Type 0 where
@@ -185,6 +193,9 @@ pub record Step (cs : List ℕ) (block : ℕ) (old : List TermNode) (d : Draft) 
   pub sites_there : SitesThere new sites
   pub sites_of : SitesOf new items sites
   pub sites_behind : e.sites ≡ d.sites ++ sites
+  pub numbered : map site_place sites ≡ places_from block d.calls (length sites)
+  pub calls : e.calls ≡ d.calls + length sites
+  pub variables : variables_in new ≡ variables_in old ++ numbers_from d.next (length (chosen items))
   pub asserts : List FailTerm
   pub asserts_there : FailsThere new asserts
   pub asserts_behind : e.asserts ≡ d.asserts ++ asserts

@@ -1,4 +1,5 @@
 -- The terms of edges and calls say exactly which edges and calls a run passes.
+use Rattle.vc_gen.specs.declared.parts.SiteTerm.{SiteTerm}
 use Rattle.std.specs.Prelude.{◌≡◌, ℕ, ◌+◌, Bool, true, false, List, [], ◌∷◌, ◌++◌, map, Option, None, Some, if◌then◌else◌}
 use Rattle.hy_val.specs.Values.{is_on}
 use Rattle.hy_val.specs.declared.value.Value.{Value}
@@ -24,6 +25,11 @@ edge_terms n p (w ∷ ws) = edge_term n p w.target w.live ++ edge_terms n (p + 1
 abbrev pub true_edges : (ℕ → Value) → List TermNode → List EdgeTerm → List (ℕ × ℕ)
 true_edges a nodes [] = []
 true_edges a nodes (e ∷ es) = if is_on (value a nodes e.node) then (e.block, e.place) ∷ true_edges a nodes es else true_edges a nodes es
+
+-- the calls whose bits are true, by block and number
+abbrev pub true_sites : (ℕ → Value) → List TermNode → List SiteTerm → List (ℕ × ℕ)
+true_sites a nodes [] = []
+true_sites a nodes (s ∷ ss) = if is_on (value a nodes s.node) then (s.block, s.call) ∷ true_sites a nodes ss else true_sites a nodes ss
 
 abbrev pub EdgesThere : List TermNode → List EdgeTerm → Type 0
 EdgesThere nodes [] = Unit {0}

@@ -1,4 +1,5 @@
 -- The blocks become terms, one by one.
+use Rattle.flat_prog.specs.Sites.{numbers_from}
 use Rattle.std.specs.Prelude.{◌≡◌, ℕ, ◌+◌, Bool, true, false, ◌||◌, List, [], ◌∷◌, ◌++◌, map, length, take, replicate, slice_get, Some, IsTrue, IsSome}
 use Rattle.hy_val.specs.Values.{is_on}
 use Rattle.hy_val.specs.declared.sort.Sort.{Sort}
@@ -14,22 +15,23 @@ use Rattle.flat_prog.specs.declared.proc.FlatProc.{FlatProc}
 use Rattle.passive_form.specs.Limited.{Limited}
 use Rattle.passive_form.specs.Local.{sorted_as}
 use Rattle.vc_gen.specs.Fold.{Edge, out_next, step, fold, seen, seen_at, reached, entered, through, edges_out, live_edges, choice_count}
-use Rattle.vc_gen.specs.Passages.{passages_seen, all_passages}
+use Rattle.vc_gen.specs.Passages.{passages_seen, all_passages, places_seen, all_places}
 use Rattle.vc_gen.specs.Breaking.{breaks_seen, any_breaks}
 use Rattle.vc_gen.specs.Alike.{Alike}
 use Rattle.flat_prog.specs.Program.{variables_of}
 use Rattle.passive_form.specs.Making.{passive_block, passive_blocks}
 use Rattle.passive_form.specs.declared.PassiveBlock.{PassiveBlock}
-use Rattle.passive_form.specs.Laws.{cmds_there}
+use Rattle.passive_form.specs.Laws.{cmds_there, AllThere}
 use Rattle.vc_gen.specs.declared.parts.Draft.{Draft}
 use Rattle.vc_gen.specs.declared.parts.Wait.{Wait}
 use Rattle.vc_gen.specs.declared.parts.EdgeTerm.{EdgeTerm}
 use Rattle.vc_gen.specs.declared.parts.SiteTerm.{SiteTerm}
-use Rattle.vc_gen.specs.Standing.{Later, AreOf}
+use Rattle.vc_gen.specs.declared.parts.FailTerm.{FailTerm}
+use Rattle.vc_gen.specs.Standing.{Later, AreOf, variables_in}
 use Rattle.vc_gen.specs.Items.{bool_sort}
-use Rattle.vc_gen.specs.Emit.{site_value, SitesThere}
+use Rattle.vc_gen.specs.Emit.{FailsThere, site_value, SitesThere}
 use Rattle.vc_gen.specs.Signed.{SitesSigned}
-use Rattle.vc_gen.specs.Exact.{true_edges, EdgesThere, SameCalls}
+use Rattle.vc_gen.specs.Exact.{true_edges, EdgesThere, SameCalls, true_sites}
 use Rattle.vc_gen.specs.Inputs.{given_at, givens_at}
 use Rattle.vc_gen.specs.Instance.{all_at, edges_at}
 use Rattle.vc_gen.specs.Joins.{WaitOf, WaitsOf}
@@ -42,6 +44,7 @@ pub record LeftBy (old : List TermNode) (d : Draft) (next : FlatNext) (globals l
   pub frame : Framed d e
   pub next_is : e.next ≡ d.next + choice_count next
   pub below : IsTrue (below e.next new)
+  pub numbers : variables_in new ≡ variables_in old ++ numbers_from d.next (choice_count next)
   pub more : List Wait
   pub waits_are : waits ≡ before ++ more
   pub of : (gs ls : List Sort) → AreOf old globals gs → AreOf old locals ls → WaitsOf new gs ls more
@@ -77,6 +80,8 @@ pub record BlockSays (flat : Limited) (q : FlatProc) (n : ℕ) (cs : List ℕ) (
           (given_at flat q a d.next n).choices
   pub calls : (a : ℕ → Value) (dead : Env) → IsTrue (fits a new) →
       SameCalls (map (site_value a new) sites) (passages_seen flat q (seen_at dead (given_at flat q a d.next n) (edges_at a old (all_at a old cs) waits)))
+  pub places : (a : ℕ → Value) (dead : Env) → IsTrue (fits a new) →
+      true_sites a new sites ≡ places_seen flat q (seen_at dead (given_at flat q a d.next n) (edges_at a old (all_at a old cs) waits))
   pub signed : SitesSigned flat new sites
 
 pub record BlockDone (cs : List ℕ) (spare : Wait) (old : List TermNode) (d : Draft) (waits : List Wait) (edges : List EdgeTerm) (block : PassiveBlock) (new : List TermNode) (e : Draft) (edges' : List EdgeTerm) (left : List Wait) : Type 0 where
@@ -87,16 +92,15 @@ pub record BlockDone (cs : List ℕ) (spare : Wait) (old : List TermNode) (d : D
   pub sites : List SiteTerm
   pub sites_are : e.sites ≡ d.sites ++ sites
   pub sites_there : SitesThere new sites
+  pub asserts : List FailTerm
+  pub asserts_are : e.asserts ≡ d.asserts ++ asserts
+  pub asserts_there : FailsThere new asserts
   pub next : e.next ≡ d.next + length (block_sorts block)
+  pub numbers : variables_in new ≡ variables_in old ++ numbers_from d.next (length (block_sorts block))
   pub fit : (a : ℕ → Value) → IsTrue (fits a old) → sorted_as (block_sorts block) (reads a d.next (length (block_sorts block))) ≡ true → IsTrue (fits a new)
   pub stage : (csorts gsorts lsorts : List Sort) → Stage csorts gsorts lsorts old cs spare d waits → BlockFits csorts gsorts lsorts block → Stage csorts gsorts lsorts new cs spare e left
   pub says : (flat : Limited) (q : FlatProc) (n : ℕ) (b : FlatBlock) → slice_get q.blocks n ≡ Some b → cmds_there flat q b.cmds ≡ true → block ≡ passive_block flat q n b →
       Stage flat.consts flat.globals (variables_of q) old cs spare d waits → BlockSays flat q n cs old d waits new e left marks sites
-
--- the blocks of the order are there, and what they name
-abbrev pub AllThere : Limited → FlatProc → List ℕ → Type 0
-AllThere flat q [] = Unit {0}
-AllThere flat q (n ∷ ns) = ((b : FlatBlock) × (slice_get q.blocks n ≡ Some b) × (cmds_there flat q b.cmds ≡ true)) × AllThere flat q ns
 
 -- the blocks of this order have become terms
 pub record WentSays (flat : Limited) (q : FlatProc) (order : List ℕ) (cs : List ℕ) (old : List TermNode) (d : Draft) (first : List Wait) (nodes : List TermNode) (e : Draft) (waits : List Wait) (marks : List EdgeTerm) (sites : List SiteTerm) : Type 0 where
@@ -107,6 +111,8 @@ pub record WentSays (flat : Limited) (q : FlatProc) (order : List ℕ) (cs : Lis
   pub edges : (a : ℕ → Value) (dead : Env) → IsTrue (fits a nodes) → true_edges a nodes marks ≡ live_edges flat q dead (givens_at flat q a d.next order) (edges_at a old (all_at a old cs) first)
   pub calls : (a : ℕ → Value) (dead : Env) → IsTrue (fits a nodes) →
       SameCalls (map (site_value a nodes) sites) (all_passages flat q (seen flat q dead (givens_at flat q a d.next order) (edges_at a old (all_at a old cs) first)))
+  pub places : (a : ℕ → Value) (dead : Env) → IsTrue (fits a nodes) →
+      true_sites a nodes sites ≡ all_places flat q (seen flat q dead (givens_at flat q a d.next order) (edges_at a old (all_at a old cs) first))
   pub signed : SitesSigned flat nodes sites
 
 -- all that the blocks ask for
@@ -126,7 +132,11 @@ pub record Went (cs : List ℕ) (spare : Wait) (old : List TermNode) (d : Draft)
   pub sites : List SiteTerm
   pub sites_are : e.sites ≡ d.sites ++ sites
   pub sites_there : SitesThere nodes sites
+  pub asserts : List FailTerm
+  pub asserts_are : e.asserts ≡ d.asserts ++ asserts
+  pub asserts_there : FailsThere nodes asserts
   pub next : e.next ≡ d.next + length (blocks_sorts (take i blocks))
+  pub numbers : variables_in nodes ≡ variables_in old ++ numbers_from d.next (length (blocks_sorts (take i blocks)))
   pub fit : (a : ℕ → Value) → IsTrue (fits a old) → sorted_as (blocks_sorts (take i blocks)) (reads a d.next (length (blocks_sorts (take i blocks)))) ≡ true → IsTrue (fits a nodes)
   pub stage : (csorts gsorts lsorts : List Sort) → Stage csorts gsorts lsorts old cs spare d first → AllFit csorts gsorts lsorts blocks → Stage csorts gsorts lsorts nodes cs spare e waits
   pub says : (flat : Limited) (q : FlatProc) (order : List ℕ) → blocks ≡ passive_blocks flat q order → AllThere flat q order →
@@ -141,7 +151,11 @@ pub record WentAll (cs : List ℕ) (spare : Wait) (old : List TermNode) (d : Dra
   pub sites : List SiteTerm
   pub sites_are : e.sites ≡ d.sites ++ sites
   pub sites_there : SitesThere nodes sites
+  pub asserts : List FailTerm
+  pub asserts_are : e.asserts ≡ d.asserts ++ asserts
+  pub asserts_there : FailsThere nodes asserts
   pub next : e.next ≡ d.next + length (blocks_sorts blocks)
+  pub numbers : variables_in nodes ≡ variables_in old ++ numbers_from d.next (length (blocks_sorts blocks))
   pub fit : (a : ℕ → Value) → IsTrue (fits a old) → sorted_as (blocks_sorts blocks) (reads a d.next (length (blocks_sorts blocks))) ≡ true → IsTrue (fits a nodes)
   pub stage : (csorts gsorts lsorts : List Sort) → Stage csorts gsorts lsorts old cs spare d first → AllFit csorts gsorts lsorts blocks → Stage csorts gsorts lsorts nodes cs spare e waits
   pub says : (flat : Limited) (q : FlatProc) (order : List ℕ) → blocks ≡ passive_blocks flat q order → AllThere flat q order →

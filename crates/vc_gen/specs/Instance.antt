@@ -1,5 +1,5 @@
 -- What the terms of a procedure say: their assignments are the procedure's runs, all calls free.
-use Rattle.std.specs.Prelude.{◌≡◌, ℕ, ◌+◌, ◌<◌, Bool, true, false, List, [], ◌∷◌, ◌++◌, map, length, Some, IsTrue}
+use Rattle.std.specs.Prelude.{◌≡◌, ℕ, ◌+◌, ◌<◌, Bool, true, false, List, [], ◌∷◌, ◌++◌, map, length, Some, IsTrue, take}
 use Rattle.hy_val.specs.Values.{at, is_on}
 use Rattle.hy_val.specs.declared.sort.Sort.{Sort}
 use Rattle.hy_val.specs.declared.value.Value.{Value}
@@ -13,7 +13,7 @@ use Rattle.flat_prog.specs.declared.proc.FlatProc.{FlatProc}
 use Rattle.passive_form.specs.Limited.{Limited}
 use Rattle.passive_form.specs.Local.{State, alone, sorted_as, start, LocalEnds, LocalFails}
 use Rattle.flat_prog.specs.Local.{Result, Request, outs_of, edges_of}
-use Rattle.vc_gen.specs.Passages.{all_passages, blame}
+use Rattle.vc_gen.specs.Passages.{all_passages, blame, all_places, path_places, along}
 use Rattle.vc_gen.specs.Fold.{Edge, fold, seen, live_edges, ends, end_env}
 use Rattle.flat_prog.specs.Ordering.{Onward, is_in}
 use Rattle.vc_gen.specs.Breaking.{any_breaks}
@@ -23,9 +23,12 @@ use Rattle.vc_gen.specs.declared.parts.Wait.{Wait}
 use Rattle.vc_gen.specs.declared.parts.Actuals.{Actuals}
 use Rattle.vc_gen.specs.declared.parts.EdgeTerm.{EdgeTerm}
 use Rattle.vc_gen.specs.declared.parts.SiteTerm.{SiteTerm}
-use Rattle.vc_gen.specs.Emit.{site_value, SitesThere}
-use Rattle.vc_gen.specs.Exact.{true_edges, SameCalls, asked, given_back}
-use Rattle.vc_gen.specs.Standing.{Later}
+use Rattle.hy_term.specs.TermSorts.{sort_at}
+use Rattle.vc_gen.specs.Items.{bool_sort}
+use Rattle.vc_gen.specs.declared.parts.FailTerm.{FailTerm}
+use Rattle.vc_gen.specs.Emit.{site_value, SitesThere, FailsThere}
+use Rattle.vc_gen.specs.Exact.{true_edges, EdgesThere, SameCalls, asked, given_back, true_sites}
+use Rattle.vc_gen.specs.Standing.{Later, AreOf}
 use Rattle.vc_gen.specs.Signed.{SitesSigned}
 use Rattle.vc_gen.specs.Inputs.{sorts_of_blocks, givens_at}
 
@@ -52,6 +55,15 @@ room flat q order = start_sorts q q.kind ++ sorts_of_blocks flat q order
 abbrev pub first_edge : Env → List Edge
 first_edge env = record { target = Some 0; live = true; env = env } ∷ []
 
+-- the terms of an instance are there: bits, and the outs and globals with their sorts
+pub record PartsThere (gsorts osorts : List Sort) (nodes : List TermNode) (ended fails : ℕ) (outs globals : List ℕ) (edges : List EdgeTerm) (asserts : List FailTerm) : Type 0 where
+  pub ended_is : sort_at nodes ended ≡ Some bool_sort
+  pub fails_is : sort_at nodes fails ≡ Some bool_sort
+  pub outs_are : AreOf nodes outs osorts
+  pub globals_are : AreOf nodes globals gsorts
+  pub edges_are : EdgesThere nodes edges
+  pub asserts_are : FailsThere nodes asserts
+
 -- the blocks have become terms: variables from k on, edges that are left, the end
 pub record Built (flat : Limited) (q : FlatProc) (order : List ℕ) (actuals : Actuals) (k : ℕ) (old new : List TermNode) (left : List Wait) (ended fails : ℕ) (outs globals : List ℕ) (edges : List EdgeTerm) (sites : List SiteTerm) : Type 0 where
   pub later : Later old new
@@ -67,6 +79,8 @@ pub record Built (flat : Limited) (q : FlatProc) (order : List ℕ) (actuals : A
       true_edges a new edges ≡ live_edges flat q (env a) (givens_at flat q a (k + length (start_sorts q q.kind)) order) (first_edge (env a))
   pub calls_are : (a : ℕ → Value) → IsTrue (fits a new) →
       SameCalls (map (site_value a new) sites) (all_passages flat q (seen flat q (env a) (givens_at flat q a (k + length (start_sorts q q.kind)) order) (first_edge (env a))))
+  pub places_are : (a : ℕ → Value) → IsTrue (fits a new) →
+      true_sites a new sites ≡ all_places flat q (seen flat q (env a) (givens_at flat q a (k + length (start_sorts q q.kind)) order) (first_edge (env a)))
   pub sites_there : SitesThere new sites
   pub signed : SitesSigned flat new sites
   pub ended_is : (a : ℕ → Value) → IsTrue (fits a new) → is_on (value a new ended) ≡ ends (edges_at a new (all_at a new actuals.consts) left)
@@ -87,12 +101,16 @@ pub record PassesTrue (a : ℕ → Value) (nodes : List TermNode) (edges : List 
   pub calls_are : calls ≡ asked (map (site_value a nodes) sites)
   pub results_are : results ≡ given_back (map (site_value a nodes) sites)
 
+-- the values that a run along a path takes: those of the start's variables, and those of the blocks of the path
+abbrev pub run_values : Limited → FlatProc → List ℕ → ℕ → (ℕ → Value) → List ℕ → List Value
+run_values flat q order k a path = reads a k (length (start_sorts q q.kind)) ++ along (givens_at flat q a (k + length (start_sorts q q.kind)) order) path
+
 -- an assignment that makes the end true is a run that ends with the terms' values
-abbrev pub EndsSound : Limited → FlatProc → Actuals → List TermNode → ℕ → List ℕ → List ℕ → List EdgeTerm → List SiteTerm → Type 0
-EndsSound flat q actuals nodes ended outs globals edges sites =
+abbrev pub EndsSound : Limited → FlatProc → List ℕ → Actuals → ℕ → List TermNode → ℕ → List ℕ → List ℕ → List EdgeTerm → List SiteTerm → Type 0
+EndsSound flat q order actuals k nodes ended outs globals edges sites =
     (a : ℕ → Value) → IsTrue (fits a nodes) → is_on (value a nodes ended) ≡ true →
     (path places : List ℕ) × (values : List Value) × (results : List Result) × (calls : List Request) × EndsFrom flat q actuals a nodes path places values results calls (all_at a nodes outs) (all_at a nodes globals)
-    × PassesTrue a nodes edges sites path places results calls
+    × PassesTrue a nodes edges sites path places results calls × (values ≡ run_values flat q order k a (0 ∷ path))
 
 -- every run that ends has an assignment, whatever the old variables are
 pub record Answers (a b : ℕ → Value) (k : ℕ) (nodes : List TermNode) (ended : ℕ) (outs globals : List ℕ) (edges : List EdgeTerm) (sites : List SiteTerm) (outs_are globals_are : List Value) (path places : List ℕ) (results : List Result) (calls : List Request) : Type 0 where
@@ -103,10 +121,17 @@ pub record Answers (a b : ℕ → Value) (k : ℕ) (nodes : List TermNode) (ende
   pub globals_is : all_at b nodes globals ≡ globals_are
   pub passes : PassesTrue b nodes edges sites path places results calls
 
-abbrev pub EndsComplete : Limited → FlatProc → Actuals → ℕ → List TermNode → List TermNode → ℕ → List ℕ → List ℕ → List EdgeTerm → List SiteTerm → Type 0
-EndsComplete flat q actuals k old nodes ended outs globals edges sites =
+abbrev pub EndsComplete : Limited → FlatProc → List ℕ → Actuals → ℕ → List TermNode → List TermNode → ℕ → List ℕ → List ℕ → List EdgeTerm → List SiteTerm → Type 0
+EndsComplete flat q order actuals k old nodes ended outs globals edges sites =
     (a : ℕ → Value) → IsTrue (fits a old) → (path places : List ℕ) (values : List Value) (results : List Result) (calls : List Request) (os gs : List Value) →
-    EndsFrom flat q actuals a old path places values results calls os gs → (b : ℕ → Value) × Answers a b k nodes ended outs globals edges sites os gs path places results calls
+    EndsFrom flat q actuals a old path places values results calls os gs →
+    (b : ℕ → Value) × Answers a b k nodes ended outs globals edges sites os gs path places results calls × (values ≡ run_values flat q order k b (0 ∷ path))
+
+-- a run that ends makes the calls of its path's blocks, each of them
+abbrev pub EndsPlaced : Limited → FlatProc → Actuals → List TermNode → ℕ → List EdgeTerm → List SiteTerm → Type 0
+EndsPlaced flat q actuals nodes ended edges sites =
+    (a : ℕ → Value) → IsTrue (fits a nodes) → is_on (value a nodes ended) ≡ true → (path places : List ℕ) (values : List Value) (results : List Result) (calls : List Request) (os gs : List Value) →
+    EndsFrom flat q actuals a nodes path places values results calls os gs → edges_of (0 ∷ path) places ≡ true_edges a nodes edges → true_sites a nodes sites ≡ path_places q (0 ∷ path)
 
 -- the two bits are never true at once
 abbrev pub NeverBoth : List TermNode → (ended fails : ℕ) → Type 0
@@ -125,11 +150,18 @@ pub record PassesWith (x y : ℕ) (a : ℕ → Value) (nodes : List TermNode) (e
   pub results_are : results ≡ map (recast x y) (given_back (map (site_value a nodes) sites))
 
 -- an assignment that makes the fail bit true is a run that fails, whatever a callee that fails there fails with
-abbrev pub FailsSound : Limited → FlatProc → Actuals → List TermNode → ℕ → List EdgeTerm → List SiteTerm → Type 0
-FailsSound flat q actuals nodes fails edges sites =
+abbrev pub FailsSound : Limited → FlatProc → List ℕ → Actuals → ℕ → List TermNode → ℕ → List EdgeTerm → List SiteTerm → Type 0
+FailsSound flat q order actuals k nodes fails edges sites =
     (a : ℕ → Value) → IsTrue (fits a nodes) → is_on (value a nodes fails) ≡ true → (x y : ℕ) →
     (path places : List ℕ) × (values : List Value) × (results : List Result) × (calls : List Request) × (proc number : ℕ) × FailsFrom flat q actuals a nodes path places values results calls proc number
-    × PassesWith x y a nodes edges sites path places results calls
+    × PassesWith x y a nodes edges sites path places results calls × (values ≡ take (length values) (run_values flat q order k a (0 ∷ path)))
+
+-- a run that fails makes the first calls of its path's blocks, as many as it makes
+abbrev pub FailsPlaced : Limited → FlatProc → Actuals → List TermNode → ℕ → List EdgeTerm → List SiteTerm → Type 0
+FailsPlaced flat q actuals nodes fails edges sites =
+    (a : ℕ → Value) → IsTrue (fits a nodes) → is_on (value a nodes fails) ≡ true → (path places : List ℕ) (values : List Value) (results : List Result) (calls : List Request) (proc number : ℕ) →
+    FailsFrom flat q actuals a nodes path places values results calls proc number → edges_of (0 ∷ path) places ≡ true_edges a nodes edges → calls ≡ asked (map (site_value a nodes) sites) →
+    true_sites a nodes sites ≡ take (length calls) (path_places q (0 ∷ path))
 
 -- every run that fails has an assignment, whatever the old variables are
 pub record FailAnswers (a b : ℕ → Value) (k : ℕ) (nodes : List TermNode) (fails : ℕ) (edges : List EdgeTerm) (sites : List SiteTerm) (path places : List ℕ) (results : List Result) (calls : List Request) : Type 0 where
@@ -140,7 +172,8 @@ pub record FailAnswers (a b : ℕ → Value) (k : ℕ) (nodes : List TermNode) (
   pub calls_are : calls ≡ asked (map (site_value b nodes) sites)
   pub results_are : map blame results ≡ map blame (given_back (map (site_value b nodes) sites))      -- but for the assert that a callee fails in
 
-abbrev pub FailsComplete : Limited → FlatProc → Actuals → ℕ → List TermNode → List TermNode → ℕ → List EdgeTerm → List SiteTerm → Type 0
-FailsComplete flat q actuals k old nodes fails edges sites =
+abbrev pub FailsComplete : Limited → FlatProc → List ℕ → Actuals → ℕ → List TermNode → List TermNode → ℕ → List EdgeTerm → List SiteTerm → Type 0
+FailsComplete flat q order actuals k old nodes fails edges sites =
     (a : ℕ → Value) → IsTrue (fits a old) → (path places : List ℕ) (values : List Value) (results : List Result) (calls : List Request) (proc number : ℕ) →
-    FailsFrom flat q actuals a old path places values results calls proc number → (b : ℕ → Value) × FailAnswers a b k nodes fails edges sites path places results calls
+    FailsFrom flat q actuals a old path places values results calls proc number →
+    (b : ℕ → Value) × FailAnswers a b k nodes fails edges sites path places results calls × (values ≡ take (length values) (run_values flat q order k b (0 ∷ path)))

@@ -1,12 +1,14 @@
 -- The calls of a block, passed or not: what each is asked for and what comes back.
-use Rattle.std.specs.Prelude.{ℕ, zero, ◌+◌, Bool, true, false, ◌&&◌, List, [], ◌∷◌, ◌++◌, slice_get, Option, None, Some, if◌then◌else◌}
+use Rattle.hy_val.specs.declared.value.Value.{Value}
+use Rattle.std.specs.Prelude.{ℕ, zero, suc, length, ◌+◌, Bool, true, false, ◌&&◌, List, [], ◌∷◌, ◌++◌, slice_get, Option, None, Some, if◌then◌else◌, nat_eq}
 use Rattle.flat_prog.specs.declared.block.FlatCmd.{FlatCmd}
 use Rattle.flat_prog.specs.declared.block.FlatCmd.TheVariants.{Assign, Havoc, Assume, Assert, Call}
 use Rattle.flat_prog.specs.declared.proc.FlatProc.{FlatProc}
+use Rattle.flat_prog.specs.Sites.{calls_at}
 use Rattle.passive_form.specs.Limited.{Limited}
 use Rattle.passive_form.specs.Local.{State, alone, request, pass, cmds_of}
 use Rattle.flat_prog.specs.Local.{Result, Ended, Broken, Request}
-use Rattle.vc_gen.specs.Fold.{Edge, Seen}
+use Rattle.vc_gen.specs.Fold.{Edge, Given, Seen}
 
 -- a call, which the run comes to where `on`
 pub record Passage : Type 0 where
@@ -40,6 +42,42 @@ passages_seen flat q x = passages flat q (cmds_of (slice_get q.blocks x.given.nu
 abbrev pub all_passages : Limited → FlatProc → List Seen → List Passage
 all_passages flat q [] = []
 all_passages flat q (x ∷ xs) = passages_seen flat q x ++ all_passages flat q xs
+
+-- so many numbers of a block, from one on
+abbrev pub places_from : ℕ → ℕ → ℕ → List (ℕ × ℕ)
+places_from n i zero = []
+places_from n i (suc k) = (n, i) ∷ places_from n (i + 1) k
+
+-- the calls of a block that the run comes to, by block and number
+abbrev pub places_at : ℕ → ℕ → List Passage → List (ℕ × ℕ)
+places_at n i [] = []
+places_at n i (p ∷ ps) = if p.on then (n, i) ∷ places_at n (i + 1) ps else places_at n (i + 1) ps
+
+abbrev pub places_seen : Limited → FlatProc → Seen → List (ℕ × ℕ)
+places_seen flat q x = places_at x.given.number 0 (passages_seen flat q x)
+
+abbrev pub all_places : Limited → FlatProc → List Seen → List (ℕ × ℕ)
+all_places flat q [] = []
+all_places flat q (x ∷ xs) = places_seen flat q x ++ all_places flat q xs
+
+-- the calls of the blocks of a path
+abbrev pub block_places : FlatProc → ℕ → List (ℕ × ℕ)
+block_places q n = places_from n 0 (length (calls_at (slice_get q.blocks n)))
+
+abbrev pub path_places : FlatProc → List ℕ → List (ℕ × ℕ)
+path_places q [] = []
+path_places q (n ∷ path) = block_places q n ++ path_places q path
+
+-- the values of the blocks that are reached
+abbrev pub seen_values : List Seen → List Value
+seen_values [] = []
+seen_values (x ∷ xs) = if x.on then x.given.values ++ seen_values xs else seen_values xs
+
+-- the values of the blocks of a path, in the order in which the blocks are gone through
+abbrev pub along : List Given → List ℕ → List Value
+along [] path = []
+along (g ∷ gs) [] = []
+along (g ∷ gs) (n ∷ path) = if nat_eq n g.number then g.values ++ along gs path else along gs (n ∷ path)
 
 -- the live edges with a target, by block and place
 abbrev pub marked : ℕ → ℕ → Option ℕ → Bool → List (ℕ × ℕ)

@@ -21,7 +21,7 @@ use Rattle.vc_gen.specs.declared.parts.Actuals.{Actuals}
 use Rattle.vc_gen.specs.declared.parts.EdgeTerm.{EdgeTerm}
 use Rattle.vc_gen.specs.declared.parts.SiteTerm.{SiteTerm}
 use Rattle.vc_gen.specs.Inputs.{sorts_of_block, sorts_of_blocks}
-use Rattle.vc_gen.specs.Instance.{start_sorts, EndsFrom, Answers, FailsFrom, FailAnswers}
+use Rattle.vc_gen.specs.Instance.{start_sorts, EndsFrom, Answers, FailsFrom, FailAnswers, run_values}
 
 -- the variables from k on have these values, as far as they are settled
 abbrev pub Follows : (ℕ → Value) → ℕ → List (Option Value) → Type 0
@@ -86,23 +86,23 @@ pub record OpenAt (flat : Limited) (q : FlatProc) (order : List ℕ) (place coun
 -- for a run that ends: the values of the start's variables, and of those of the blocks as far as the run settles them. Under each assignment with
 -- these the terms say the run, whatever the other variables are.
 pub record EndPlan (flat : Limited) (q : FlatProc) (order : List ℕ) (a : ℕ → Value) (k : ℕ) (new : List TermNode) (ended : ℕ) (outs globals : List ℕ) (edges : List EdgeTerm) (sites : List SiteTerm)
-    (path places : List ℕ) (results : List Result) (calls : List Request) (os gs : List Value) : Type 0 where
+    (path places : List ℕ) (values : List Value) (results : List Result) (calls : List Request) (os gs : List Value) : Type 0 where
   pub first : List Value
   pub first_sorts : sorted_as (start_sorts q q.kind) first ≡ true
   pub row : List (Option Value)
   pub row_sorts : RowFits (sorts_of_blocks flat q order) row
   pub open_off : OpenOff flat q (0 ∷ path) order row
   pub says : (b : ℕ → Value) → ((n : ℕ) → n < k → b n ≡ a n) → IsTrue (fits b new) → reads b k (length (start_sorts q q.kind)) ≡ first → Follows b (k + length (start_sorts q q.kind)) row →
-      Answers a b k new ended outs globals edges sites os gs path places results calls
+      Answers a b k new ended outs globals edges sites os gs path places results calls × (values ≡ run_values flat q order k b (0 ∷ path))
 
 abbrev pub EndsPlanned : Limited → FlatProc → List ℕ → Actuals → ℕ → List TermNode → List TermNode → ℕ → List ℕ → List ℕ → List EdgeTerm → List SiteTerm → Type 0
 EndsPlanned flat q order actuals k old nodes ended outs globals edges sites =
     (a : ℕ → Value) → IsTrue (fits a old) → (path places : List ℕ) (values : List Value) (results : List Result) (calls : List Request) (os gs : List Value) →
-    EndsFrom flat q actuals a old path places values results calls os gs → EndPlan flat q order a k nodes ended outs globals edges sites path places results calls os gs
+    EndsFrom flat q actuals a old path places values results calls os gs → EndPlan flat q order a k nodes ended outs globals edges sites path places values results calls os gs
 
 -- the same for a run that fails. Of its last block the row settles what is chosen up to the command that fails, and nothing behind it.
 pub record FailPlan (flat : Limited) (q : FlatProc) (order : List ℕ) (a : ℕ → Value) (k : ℕ) (new : List TermNode) (fails : ℕ) (edges : List EdgeTerm) (sites : List SiteTerm)
-    (path places : List ℕ) (results : List Result) (calls : List Request) (count : ℕ) : Type 0 where
+    (path places : List ℕ) (values : List Value) (results : List Result) (calls : List Request) (count : ℕ) : Type 0 where
   pub first : List Value
   pub first_sorts : sorted_as (start_sorts q q.kind) first ≡ true
   pub row : List (Option Value)
@@ -112,10 +112,10 @@ pub record FailPlan (flat : Limited) (q : FlatProc) (order : List ℕ) (a : ℕ 
   pub place_is : slice_get order place ≡ Some (last_of 0 path)
   pub open_behind : OpenAt flat q order place count row
   pub says : (b : ℕ → Value) → ((n : ℕ) → n < k → b n ≡ a n) → IsTrue (fits b new) → reads b k (length (start_sorts q q.kind)) ≡ first → Follows b (k + length (start_sorts q q.kind)) row →
-      FailAnswers a b k new fails edges sites path places results calls
+      FailAnswers a b k new fails edges sites path places results calls × (values ≡ take (length values) (run_values flat q order k b (0 ∷ path)))
 
 abbrev pub FailsPlanned : Limited → FlatProc → List ℕ → Actuals → ℕ → List TermNode → List TermNode → ℕ → List EdgeTerm → List SiteTerm → Type 0
 FailsPlanned flat q order actuals k old nodes fails edges sites =
     (a : ℕ → Value) → IsTrue (fits a old) → (path places : List ℕ) (values : List Value) (results : List Result) (calls : List Request) (proc number : ℕ) →
     (run : FailsFrom flat q actuals a old path places values results calls proc number) →
-    FailPlan flat q order a k nodes fails edges sites path places results calls (settled_count flat q (entry_cur flat q) 0 (entry_count flat q) run.run.before run.run.at)
+    FailPlan flat q order a k nodes fails edges sites path places values results calls (settled_count flat q (entry_cur flat q) 0 (entry_count flat q) run.run.before run.run.at)

@@ -1,4 +1,4 @@
-//! Calls.
+//! Calls: the callee's result is new variables, and the run goes on where the callee does not fail.
 ghost use Rattle.std.specs.Prelude.{◌≡◌, ◌∷◌, [], ◌+◌, ◌<◌, length, OnOk, IfOk, false, slice_index_or};
 ghost use Rattle.passive_form.specs.Local.{replaced};
 ghost use Rattle.passive_form.specs.declared.Item.TheVariants.{Site};
@@ -80,6 +80,14 @@ fn globals_behind(alloc: Global, changes: &[bool], before: &[usize], changed: &[
     Ok(found)
 }
 
+// The number of the next call. One that needs more than 32 bits is want of memory.
+fn next_call(number: u32) -> Result<u32, AllocError>
+    ensures { IfOk result (λ n. n ≡ number + 1) }
+{
+    number.checked_add(1).ok_or(AllocError)
+}
+
+/// A call, which is that of this number among the calls of the block. More than 32 bits can number are want of memory.
 pub(crate) fn emit_site(
     alloc: Global,
     terms: &mut Terms,
@@ -108,7 +116,10 @@ pub(crate) fn emit_site(
     let node = draft.cond;
     let fails = pass(terms, draft, holds, bit)?;
     let globals_after = globals_behind(alloc, changes, globals_before.as_slice(), changed.as_slice())?;
+    let calls = next_call(draft.calls)?;
     draft.sites.push(SiteTerm {
+        block,
+        call: draft.calls,
         proc,
         node,
         first,
@@ -120,5 +131,6 @@ pub(crate) fn emit_site(
         globals_after,
         fails,
     })?;
+    draft.calls = calls;
     Ok(())
 }
