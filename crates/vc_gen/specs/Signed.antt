@@ -1,0 +1,16 @@
+-- The terms of calls have the sorts of the procedures that they call.
+use Rattle.std.specs.Prelude.{List, [], ◌∷◌}
+use Rattle.hy_term.specs.declared.node.TermNode.{TermNode}
+use Rattle.passive_form.specs.Limited.{Limited}
+use Rattle.passive_form.specs.Local.{changed_sorts}
+use Rattle.passive_form.specs.Making.{callee_outs, callee_changes}
+use Rattle.vc_gen.specs.declared.parts.SiteTerm.{SiteTerm}
+use Rattle.vc_gen.specs.Emit.{SiteIs}
+
+-- the outs have the callee's sorts, the changed globals those that it may change, and the other globals are those before the call
+abbrev pub SiteSigned : Limited → List TermNode → SiteTerm → Type 0
+SiteSigned flat nodes t = SiteIs nodes t.proc (callee_outs flat t.proc) (callee_changes flat t.proc) (changed_sorts flat t.proc) t
+
+abbrev pub SitesSigned : Limited → List TermNode → List SiteTerm → Type 0
+SitesSigned flat nodes [] = Unit {0}
+SitesSigned flat nodes (t ∷ ts) = SiteSigned flat nodes t × SitesSigned flat nodes ts
