@@ -5,6 +5,7 @@
 mod alike;
 mod block;
 mod changing;
+mod copying;
 mod flat;
 mod laws;
 mod ordering;
