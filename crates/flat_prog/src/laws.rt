@@ -1,5 +1,6 @@
 //! Laws of flat programs and their runs, each the contract of a function that does nothing.
 ghost use Rattle.flat_prog.specs.Laws.{FlatProcsAreAcyclic, NodesAreRuns, RunsAddTheirCalls, CallsOfRuns, OnceLaw, AllRunsKeep, CapsOfPathsAreOfTrees, WithinIsExact};
+ghost use Rattle.flat_prog.specs.Limits.{LimitsNameChanges};
 ghost use Rattle.flat_prog.specs.Passing.{CommandsTakeAFront};
 ghost use Rattle.flat_prog.specs.Sorted.{RunsKeepSorts};
 
@@ -42,6 +43,11 @@ pub fn sites_are_passed_once()
 /// A run leaves alone the globals that its procedure may not change, with free children and without.
 pub fn runs_keep()
     ensures { AllRunsKeep }
+{}
+
+/// The marks of a procedure name the globals that it may change: their numbers are these, in order.
+pub fn limits_name_changes()
+    ensures { LimitsNameChanges }
 {}
 
 /// The caps on the site paths of a run tree's nodes are the caps on the tree.

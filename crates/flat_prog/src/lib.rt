@@ -5,6 +5,7 @@
 mod alike;
 mod block;
 mod changing;
+mod copying;
 mod flat;
 mod laws;
 mod ordering;
@@ -16,8 +17,8 @@ pub use changing::limits;
 pub use flat::Flat;
 pub use laws::{
     calls_go_to_the_sites_passed, caps_of_paths_are_of_trees, commands_take_a_front,
-    flat_procedures_are_acyclic, nodes_are_runs, runs_add_their_calls, runs_keep, runs_keep_sorts,
-    sites_are_passed_once, within_is_exact,
+    flat_procedures_are_acyclic, limits_name_changes, nodes_are_runs, runs_add_their_calls,
+    runs_keep, runs_keep_sorts, sites_are_passed_once, within_is_exact,
 };
 pub use ordering::order;
 pub use proc::{FlatKind, FlatProc};

@@ -1,9 +1,11 @@
 //! Run trees as lists of nodes, named by number: whole ones, and those in which a child may be free.
-ghost use Rattle.std.specs.Prelude.{◌≡◌, IsTrue, ◌&&◌};
+ghost use Rattle.std.specs.Prelude.{◌≡◌, IsTrue, ◌&&◌, IfOk};
 ghost use Rattle.flat_prog.specs.Nodes as spec;
 
+use crate::copying::copy_nodes;
 use hy_val::Value;
 use sqlite_items::Items;
+use std::alloc::{AllocError, Global};
 use std::marker::Model;
 
 /// What stands below a call that a run passes.
@@ -74,6 +76,14 @@ impl RunTree {
     {
         self.nodes.as_slice()
     }
+
+    /// An equal run tree.
+    pub fn copy(&self, alloc: Global) -> Result<RunTree, AllocError>
+        ensures { IfOk result (λ t. t ≡ self.now) }
+    {
+        let nodes = copy_nodes(alloc, self.nodes.as_slice())?;
+        Ok(RunTree { nodes })
+    }
 }
 
 /// A partial run: a run tree in which a child may be free. Node 0 is the root, and a child's number is
@@ -111,6 +121,14 @@ impl PartRun {
         ensures kept { IsTrue (spec.are_nodes result.now) }
     {
         self.nodes.as_slice()
+    }
+
+    /// An equal partial run.
+    pub fn copy(&self, alloc: Global) -> Result<PartRun, AllocError>
+        ensures { IfOk result (λ t. t ≡ self.now) }
+    {
+        let nodes = copy_nodes(alloc, self.nodes.as_slice())?;
+        Ok(PartRun { nodes })
     }
 
     /// The run tree of a partial run in which no child is free.
