@@ -16,10 +16,12 @@ abbrev pub edges_to : ℕ → ℕ → List ℕ → List Edge
 edges_to block place [] = []
 edges_to block place (t ∷ ts) = record { block = block; place = place; dest = At t } ∷ edges_to block (place + 1) ts
 
+-- the edges of a block that ends so
 abbrev pub edges_of : ℕ → Next → List Edge
 edges_of block Return = record { block = block; place = 0; dest = Back } ∷ []
 edges_of block (Goto targets) = edges_to block 0 targets
 
+-- those of a block of this number; none where it is not there
 abbrev pub edges_at : ℕ → Option SrcBlock → List Edge
 edges_at block None = []
 edges_at block (Some b) = edges_of block b.next
@@ -29,6 +31,7 @@ abbrev pub leaves : SrcLoop → Dest → Bool
 leaves l Back = true
 leaves l (At to) = not (holds_block l to)
 
+-- the edges that leave the loop from its reached blocks, by block and then by place
 abbrev pub exits_of : SrcProc → SrcLoop → List Edge
 exits_of proc l = filter (λ e. leaves l e.dest) (flat_map (λ b. edges_at b (slice_get proc.blocks b)) (filter (holds_block l) (reached_blocks proc)))
 

@@ -27,6 +27,7 @@ use Rattle.extract_def.specs.Scopes.{Scope, Whole, In, reached_loops, loops_insi
 abbrev pub carried_of : Program → SrcProc → List Sort
 carried_of prog proc = locals_of proc
 
+-- a local for the exit number, where there is a loop
 abbrev pub exit_locals : List SrcLoop → List Sort
 exit_locals [] = []
 exit_locals (l ∷ ls) = exit_sort ∷ []
@@ -37,10 +38,12 @@ behind_of prog proc = exit_locals (reached_loops proc)
 
 -- ---- numbers of procedures
 
+-- how many reached loops the procedures have
 abbrev pub loops_count : List SrcProc → ℕ
 loops_count [] = 0
 loops_count (proc ∷ procs) = length (reached_loops proc) + loops_count procs
 
+-- the heads of a procedure's reached loops, ascending
 abbrev pub heads_at : Option SrcProc → List ℕ
 heads_at None = []
 heads_at (Some proc) = map (λ l. l.head) (reached_loops proc)
@@ -61,13 +64,16 @@ abbrev pub return_from : SrcProc → Scope → (block : ℕ) → FlatNext
 return_from proc Whole block = end_from proc Whole
 return_from proc (In head exit) block = Goto (leave_place proc (In head exit) (exit_of proc (In head exit) block 0) ∷ [])
 
+-- the block to which the edge from that place of that block leads in the flat procedure of a scope
 abbrev pub target_from : SrcProc → Scope → (block place to : ℕ) → ℕ
 target_from proc scope block place to = edge_place proc scope block place to (way_from proc.loops scope to)
 
+-- those of a goto, from a place on
 abbrev pub targets_from : SrcProc → Scope → (block place : ℕ) → List ℕ → List ℕ
 targets_from proc scope block place [] = []
 targets_from proc scope block place (t ∷ ts) = target_from proc scope block place t ∷ targets_from proc scope block (place + 1) ts
 
+-- how a block ends in the flat procedure of a scope
 abbrev pub next_from : SrcProc → Scope → (block : ℕ) → Next → FlatNext
 next_from proc scope block SrcReturn = return_from proc scope block
 next_from proc scope block (SrcGoto targets) = Goto (targets_from proc scope block 0 targets)
@@ -86,9 +92,11 @@ head_block prog p proc scope l =
 abbrev pub own_block : Program → (p : ℕ) → SrcProc → Scope → ℕ → SrcBlock → FlatBlock
 own_block prog p proc scope number block = record { cmds = flat_map (moved_cmds prog p (moved_by proc scope)) block.cmds; next = next_from proc scope number block.next }
 
+-- what a number that names no block would stand for; a scope keeps no such number
 abbrev pub no_block : FlatBlock
 no_block = record { cmds = []; next = Return }
 
+-- the same of a block of a number
 abbrev pub own_block_at : Program → (p : ℕ) → SrcProc → Scope → ℕ → Option SrcBlock → FlatBlock
 own_block_at prog p proc scope number None = no_block
 own_block_at prog p proc scope number (Some block) = own_block prog p proc scope number block

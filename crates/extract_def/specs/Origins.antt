@@ -10,9 +10,11 @@ use Rattle.extract_def.specs.Exits.{exits_of}
 use Rattle.extract_def.specs.Places.{exits_in, pass_count}
 use Rattle.extract_def.specs.Scopes.{Scope, Whole, In, reached_loops, loops_inside, kept_blocks, is_head_of}
 
+-- what a block that a scope keeps comes from, where these are the loops directly inside
 abbrev pub kept_origin : List SrcLoop → ℕ → Origin
 kept_origin inside block = if is_head_of inside block then Enter block else Block block
 
+-- what the blocks behind the others of a loop procedure come from
 abbrev pub end_origins : SrcProc → Scope → List Origin
 end_origins proc Whole = []
 end_origins proc (In head exit) = map Leave (numbers_from 0 (length (exits_in proc (In head exit)))) ++ Again head ∷ []

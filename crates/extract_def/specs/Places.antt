@@ -8,10 +8,12 @@ use Rattle.src_run.specs.Machine.{Way, Again, Enter, Stay, Out}
 use Rattle.extract_def.specs.Exits.{Edge, exits_of, place_of_edge}
 use Rattle.extract_def.specs.Scopes.{Scope, Whole, In, kept_blocks, loops_inside}
 
+-- the first place of a number in a list, or how long the list is where it is not there
 abbrev pub index_of : ℕ → List ℕ → ℕ
 index_of n [] = 0
 index_of n (m ∷ ms) = if nat_eq m n then 0 else index_of n ms + 1
 
+-- the loop of this head and this exit
 abbrev pub loop_in : ℕ → ℕ → SrcLoop
 loop_in head exit = record { head = head; exit = exit }
 
@@ -28,6 +30,7 @@ exit_of proc scope block place = place_of_edge block place (exits_in proc scope)
 
 -- ---- the places
 
+-- where a block of the source procedure that the scope keeps stands
 abbrev pub kept_place : SrcProc → Scope → ℕ → ℕ
 kept_place proc scope block = index_of block (kept_blocks proc scope)
 
@@ -36,6 +39,7 @@ abbrev pub pass_count : List Edge → ℕ
 pass_count [] = 1
 pass_count (e ∷ es) = length (e ∷ es)
 
+-- how many blocks there are for the exits of these loops
 abbrev pub passes_of : SrcProc → List SrcLoop → ℕ
 passes_of proc [] = 0
 passes_of proc (l ∷ ls) = pass_count (exits_of proc l) + passes_of proc ls
@@ -66,6 +70,7 @@ edge_place proc scope block place to Out = leave_place proc scope (exit_of proc 
 
 -- ---- the variables
 
+-- how many variables a procedure has: ins, outs and locals
 abbrev pub variable_count : SrcProc → ℕ
 variable_count proc = length (locals_of proc)
 

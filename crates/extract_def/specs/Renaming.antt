@@ -17,14 +17,17 @@ use Rattle.flat_prog.specs.declared.block.FlatCmd.TheVariants.{Assign, Havoc, As
 
 -- ---- commands of the source
 
+-- the variable, where the locals stand so much further behind
 abbrev pub behind : ℕ → Var → Var
 behind by (Const n) = Const n
 behind by (Global n) = Global n
 behind by (Local n) = Local (by + n)
 
+-- the nodes of an expression with such variables
 abbrev pub moved : ℕ → List ExprNode → List ExprNode
 moved by expr = map (renamed (behind by)) expr
 
+-- a target and its expression
 abbrev pub moved_pair : ℕ → Var × List ExprNode → Var × List ExprNode
 moved_pair by pair = (behind by pair.0, moved by pair.1)
 
@@ -47,6 +50,7 @@ abbrev pub reads_of : ℕ → List Sort → List (List ExprNode)
 reads_of first [] = []
 reads_of first (sort ∷ sorts) = (Read (Local first) sort ∷ []) ∷ reads_of (first + 1) sorts
 
+-- so many locals, from a number on
 abbrev pub locals_from : ℕ → ℕ → List Var
 locals_from first zero = []
 locals_from first (suc count) = Local first ∷ locals_from (first + 1) count
@@ -63,8 +67,10 @@ call_of_loop number by sorts = Call number (reads_of by sorts) (locals_from by (
 abbrev pub assume_exit : ℕ → ℕ → FlatCmd
 assume_exit local x = Assume (Read (Local local) exit_sort ∷ exit_number x ∷ Binary Eq 0 1 ∷ [])
 
+-- the local becomes this exit number
 abbrev pub set_exit : ℕ → ℕ → FlatCmd
 set_exit local x = Assign ((Local local, exit_number x ∷ []) ∷ [])
 
+-- no run goes on
 abbrev pub assume_false : FlatCmd
 assume_false = Assume (Lit (BoolAtom false) ∷ [])

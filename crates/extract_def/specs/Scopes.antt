@@ -13,9 +13,11 @@ pub use Rattle.extract_def.specs.declared.scope.Scope.TheVariants.{Whole, In}
 
 -- ---- reached blocks
 
+-- the number is one of these
 abbrev pub is_in : ℕ → List ℕ → Bool
 is_in n ns = list_any (λ m. nat_eq m n) ns
 
+-- the blocks to which the end of a block leads
 abbrev pub targets_of : Next → List ℕ
 targets_of (Goto targets) = targets
 targets_of Return = []
@@ -37,6 +39,7 @@ reached_loops proc = filter (λ l. is_in l.head (reached_blocks proc)) proc.loop
 
 -- ---- scopes
 
+-- the scopes are one
 abbrev pub same_scope : Scope → Scope → Bool
 same_scope Whole Whole = true
 same_scope Whole (In head exit) = false
@@ -68,6 +71,7 @@ is_head_of loops block = list_any (λ l. nat_eq l.head block) loops
 abbrev pub is_kept : SrcProc → Scope → ℕ → Bool
 is_kept proc scope block = same_scope (scope_of proc.loops block) scope || is_head_of (loops_inside proc scope) block
 
+-- those that a scope keeps, ascending; the scope's own first block is the first
 abbrev pub kept_blocks : SrcProc → Scope → List ℕ
 kept_blocks proc scope = filter (is_kept proc scope) (reached_blocks proc)
 

@@ -22,6 +22,7 @@ use Rattle.flat_prog.specs.declared.proc.FlatKind.{FlatKind}
 use Rattle.flat_prog.specs.declared.proc.FlatKind.TheVariants.{Source, Loop}
 use Rattle.flat_prog.specs.declared.proc.FlatProc.{FlatProc}
 
+-- the first of some lists, and those behind it
 abbrev pub first_list : List (List Choice) → List Choice
 first_list [] = []
 first_list (xs ∷ lists) = xs
@@ -40,6 +41,7 @@ own_choices (Assume expr) values lists = []
 own_choices (Assert proc number expr) values lists = []
 own_choices (Call proc args outs) values lists = first_list lists
 
+-- the values that are left behind a command, and the lists of the calls behind it
 abbrev pub values_behind : FlatCmd → List Value → List Value
 values_behind (Assign pairs) values = values
 values_behind (Havoc xs) values = drop (length xs) values
@@ -54,6 +56,7 @@ lists_behind (Assume expr) lists = lists
 lists_behind (Assert proc number expr) lists = lists
 lists_behind (Call proc args outs) lists = other_lists lists
 
+-- the choices of commands that are passed, in order; what is left behind all of them
 abbrev pub cmds_choices : List FlatCmd → List Value → List (List Choice) → List Choice
 cmds_choices [] values lists = []
 cmds_choices (c ∷ cmds) values lists = own_choices c values lists ++ cmds_choices cmds (values_behind c values) (lists_behind c lists)
@@ -75,9 +78,11 @@ place_choice (Goto []) place = []
 place_choice (Goto (to ∷ [])) place = []
 place_choice (Goto (to ∷ other ∷ targets)) place = Go place ∷ []
 
+-- the procedure of this number is that of a loop
 abbrev pub is_loop_at : FlatProgram → ℕ → Bool
 is_loop_at flat p = is_loop_kind (kind_of (slice_get flat.procs p))
 
+-- the commands of a block, and how it ends
 abbrev pub cmds_at : Option FlatBlock → List FlatCmd
 cmds_at None = []
 cmds_at (Some b) = b.cmds
@@ -111,6 +116,7 @@ abbrev pub own_count : Option SrcProc → ℕ
 own_count None = 0
 own_count (Some q) = length (sorts_of q.outs ++ sorts_of q.locals)
 
+-- how many outs and locals a flat procedure has
 abbrev pub taken_count : Option FlatProc → ℕ
 taken_count None = 0
 taken_count (Some q) = length (q.outs ++ q.locals)
@@ -122,6 +128,7 @@ node_choices prog flat (Source p) track lists =
     ++ way_choices flat (blocks_of (slice_get flat.procs track.proc)) track (drop (taken_count (slice_get flat.procs track.proc)) track.values) lists
 node_choices prog flat (Loop p head) track lists = way_choices flat (blocks_of (slice_get flat.procs track.proc)) track track.values lists
 
+-- the choices of a run below a call, and those of the runs below a node, one list a call
 abbrev mutual
   pub choices_below : Run → Program → FlatProgram → List Choice
   choices_below (node track below) prog flat = node_choices prog flat (kind_of (slice_get flat.procs track.proc)) track (lists_below below prog flat)
@@ -136,9 +143,11 @@ abbrev pub before_count : Program → Option SrcProc → ℕ
 before_count prog None = 0
 before_count prog (Some q) = length prog.consts + (length prog.globals + length q.ins)
 
+-- the same run, where so many values are taken before
 abbrev pub without_first : ℕ → Track → Track
 without_first n track = record track { values = drop n track.values }
 
+-- the choices that a run tree of the entry stands for, in the order in which the machine asks for them
 abbrev pub choices_of : Program → FlatProgram → (entry : ℕ) → Run → List Choice
 choices_of prog flat entry (node track below) =
     map Val (take (before_count prog (slice_get prog.procs entry)) track.values)

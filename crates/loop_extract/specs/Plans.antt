@@ -57,9 +57,11 @@ abbrev pub moved_in : Scope → ℕ → ℕ
 moved_in Whole count = 0
 moved_in (In head exit) count = count
 
+-- the blocks that a scope keeps
 abbrev pub kept_in : Plan → Scope → List ℕ
 kept_in plan scope = filter (stays plan.scopes scope (spans_in scope plan.heads)) (ups 0 plan.up)
 
+-- the loops directly inside a scope
 abbrev pub inside_in : SrcProc → Plan → Scope → List Inner
 inside_in proc plan scope = inners_from proc scope plan.base (length (kept_in plan scope)) plan.heads
 

@@ -13,11 +13,11 @@ use Rattle.flat_prog.specs.declared.run.Child.{Child}
 use Rattle.flat_prog.specs.declared.run.Child.TheVariants.{Node, Free}
 use Rattle.flat_prog.specs.declared.run.RunNode.{RunNode}
 use Rattle.extract_law.specs.Choices.{choices_below, lists_below, choices_of, before_count, node_choices, without_first, own_count, taken_count, way_choices}
-use Rattle.trace_build.specs.NodeRuns.{below_of, run_at}
+use Rattle.flat_prog.specs.Laws.{below_of, run_at}
 use Rattle.trace_build.specs.Spots as spots
 use Rattle.trace_build.specs.Steps.{run_steps, below_steps, children_steps, spot_steps, left_at, path_steps}
 use Rattle.trace_build.specs.declared.walk.Spot.{Spot}
-use Rattle.trace_build.proofs.Nodes.{nodes_are_runs}
+use Rattle.flat_prog.proofs.NodeRuns.{nodes_are_runs}
 
 -- where a walk begins in a node
 abbrev pub first_spot : ℕ → ℕ → Spot

@@ -26,7 +26,7 @@ use Rattle.flat_prog.specs.Trees.{Run}
 use Rattle.extract_def.specs.Extraction.{flat_of}
 use Rattle.extract_law.specs.Laws.{FailingTreesHaveLists}
 use Rattle.extract_law.specs.Choices.{asks_at, next_at, place_choice, own_choices, values_behind, lists_behind, choices_below, choices_of, before_count}
-use Rattle.trace_build.specs.NodeRuns.{run_at}
+use Rattle.flat_prog.specs.Laws.{run_at}
 use Rattle.trace_build.specs.Spots.{IsCallAt, IsHavocAt, IsPlainAt, begun_at, blocks_at, child_choices, cmds_left, rest_at, is_plain, spot_choices, stack_choices}
 use Rattle.trace_build.specs.Steps.{child_steps, children_steps, left_at, run_steps, spot_steps, stack_steps}
 use Rattle.trace_build.specs.Walking.{Passes}

@@ -3,11 +3,9 @@
 #![tactic(auto)]
 
 mod counts;
-mod laws;
 mod listing;
 mod parts;
 mod values;
 mod walk;
 
-pub use laws::nodes_are_runs;
 pub use listing::choices;

@@ -2,7 +2,7 @@
 ghost use Rattle.std.specs.Prelude.{◌≡◌, ◌++◌, ◌∷◌, [], ◌<◌, length, None, Some, slice_get, IsTrue, IfOk, OnOk};
 ghost use Rattle.flat_prog.specs.Nodes.{are_nodes};
 ghost use Rattle.src_prog.specs.Program.{Program};
-ghost use Rattle.trace_build.specs.NodeRuns.{run_at};
+ghost use Rattle.flat_prog.specs.Laws.{run_at};
 ghost use Rattle.trace_build.specs.Spots as spec;
 ghost use Rattle.trace_build.specs.Steps.{spot_steps, run_steps};
 ghost use Rattle.trace_build.specs.Walking.{Passes};
