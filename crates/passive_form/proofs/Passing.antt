@@ -119,7 +119,7 @@ havoc_is : (flat : Limited) (q : FlatProc) (consts : List Value) (vals : ℕ →
 havoc_is flat q consts vals env k [] vs rs calls t h = refl
 havoc_is flat q consts vals env k (x ∷ xs) vs rs calls t (s, h) =
     ap (λ b. option_and_then (havoc flat q xs) (if b then Some (alone (write env x (vals k)) (taken_values vals (frees flat q (k + 1) xs) ++ vs) rs calls) else None))
-        (sort_there (sort_of flat q x) (vals k) (and-first (is_some (sort_of flat q x)) (targets_there flat q xs) t) s)
+    (sort_there (sort_of flat q x) (vals k) (and-first (is_some (sort_of flat q x)) (targets_there flat q xs) t) s)
     ∙ havoc_is flat q consts vals (write env x (vals k)) (k + 1) xs vs rs calls (and-second (is_some (sort_of flat q x)) (targets_there flat q xs) t) h
 
 args_are : (consts : List Value) (vals : ℕ → Value) (cur : Cur) (args : List (List ExprNode)) → eval_all (look_at consts vals) (map (over_versions cur) args) ≡ map (eval (env_of consts vals cur)) args
@@ -157,15 +157,15 @@ pass_is flat q consts vals cur at k (Assign pairs) vs rs calls t h =
     ∙ ap (λ x. pass flat q (Assign pairs) (alone env vs (x ++ rs) calls)) (lets_results vals cur k pairs)
     ∙ ap (λ x. Some (alone (write_all env (targets_of pairs) x) vs rs calls)) (assigned_are consts vals cur k pairs h)
     ∙ same_outcome true (hold consts vals (lets cur k pairs)) (write_all env (targets_of pairs) (map vals (from k pairs))) (env_of consts vals (set_versions cur (targets_of pairs) pairs k)) vs rs
-        calls (calls ++ made_calls consts vals (lets cur k pairs))
-        (sym (lets_hold consts vals cur k pairs)) (sym (sets_are consts vals cur (targets_of pairs) pairs k)) (sym (append-nil calls) ∙ ap (λ x. calls ++ x) (sym (lets_calls consts vals cur k pairs)))
+    calls (calls ++ made_calls consts vals (lets cur k pairs))
+    (sym (lets_hold consts vals cur k pairs)) (sym (sets_are consts vals cur (targets_of pairs) pairs k)) (sym (append-nil calls) ∙ ap (λ x. calls ++ x) (sym (lets_calls consts vals cur k pairs)))
 pass_is flat q consts vals cur at k (Havoc xs) vs rs calls t h =
     let env = env_of consts vals cur in
     ap (λ x. havoc flat q xs (alone env (taken_values vals (frees flat q k xs) ++ vs) (x ++ rs) calls)) (frees_results flat q vals k xs)
     ∙ havoc_is flat q consts vals env k xs vs rs calls t h
     ∙ same_outcome true (hold consts vals (frees flat q k xs)) (write_all env xs (map vals (from k xs))) (env_of consts vals (set_versions cur xs xs k)) vs rs
-        calls (calls ++ made_calls consts vals (frees flat q k xs))
-        (sym (frees_hold flat q consts vals k xs)) (sym (sets_are consts vals cur xs xs k)) (sym (append-nil calls) ∙ ap (λ x. calls ++ x) (sym (frees_calls flat q consts vals k xs)))
+    calls (calls ++ made_calls consts vals (frees flat q k xs))
+    (sym (frees_hold flat q consts vals k xs)) (sym (sets_are consts vals cur xs xs k)) (sym (append-nil calls) ∙ ap (λ x. calls ++ x) (sym (frees_calls flat q consts vals k xs)))
 pass_is flat q consts vals cur at k (Assume e) vs rs calls t h =
     test_is (holds (env_of consts vals cur) e) (is_on (eval_by (look_at consts vals) (over_versions cur e))) (alone (env_of consts vals cur) vs rs calls) (ap is_on (eval_is consts vals cur e))
     ∙ ap (λ x. outcome (is_on (eval_by (look_at consts vals) (over_versions cur e)) && true) (env_of consts vals cur) vs rs x) (sym (append-nil calls))
@@ -180,12 +180,12 @@ pass_is flat q consts vals cur at k (Call p args outs) vs rs calls t (fit, h) =
     let call : Request = record { proc = p; globals = map vals cur.globals; args = map (eval env) args } in
     come_back_is flat (is_on (vals k)) (alone env vs (site_result vals k own (changed_sorts flat p) ∷ rs) calls) call outs os gs rs fit
     ∙ same_outcome (not (is_on (vals k)) && true) (not (is_on (vals k)) && true)
-        (write_all (after_call flat p env gs) outs os) (env_of consts vals (cur_after flat cur k (Call p args outs))) vs rs
-        (calls ++ call ∷ []) (calls ++ made_calls consts vals (items_of flat q cur at k (Call p args outs)))
-        refl
-        (ap {B = Env} (λ (x : List Value). write_all (record { consts = consts; globals = x; locals = map vals cur.locals }) outs os) (sym (map_replaced vals (callee_changes flat p) cur.globals (after_from k own (changed_sorts flat p))))
-         ∙ sym (sets_are consts vals (record { globals = replaced (callee_changes flat p) cur.globals (after_from k own (changed_sorts flat p)); locals = cur.locals }) outs own (k + 1)))
-        (ap (λ (x : List Value). calls ++ record { proc = p; globals = map vals cur.globals; args = x } ∷ []) (sym (args_are consts vals cur args)))
+    (write_all (after_call flat p env gs) outs os) (env_of consts vals (cur_after flat cur k (Call p args outs))) vs rs
+    (calls ++ call ∷ []) (calls ++ made_calls consts vals (items_of flat q cur at k (Call p args outs)))
+    refl
+    (ap {B = Env} (λ (x : List Value). write_all (record { consts = consts; globals = x; locals = map vals cur.locals }) outs os) (sym (map_replaced vals (callee_changes flat p) cur.globals (after_from k own (changed_sorts flat p))))
+    ∙ sym (sets_are consts vals (record { globals = replaced (callee_changes flat p) cur.globals (after_from k own (changed_sorts flat p)); locals = cur.locals }) outs own (k + 1)))
+    (ap (λ (x : List Value). calls ++ record { proc = p; globals = map vals cur.globals; args = x } ∷ []) (sym (args_are consts vals cur args)))
 
 -- ---- lists of items
 
@@ -283,11 +283,11 @@ pass_all_is flat q consts vals cur at k (c ∷ cs) vs rs calls t h =
     ∙ ap (λ x. pass_all flat q (c ∷ cs) (alone (env_of consts vals cur) (taken_values vals xs ++ ws) x calls)) (ap (λ x. x ++ rs) (results_append vals xs ys) ∙ append_assoc (taken_results vals xs) (taken_results vals ys) rs)
     ∙ ap (option_and_then (pass_all flat q cs)) (pass_is flat q consts vals cur at k c ws ts calls (and-first (cmd_there flat q c) (cmds_there flat q cs) t) (defined_left consts vals xs ys h))
     ∙ go_on (hold consts vals xs) (hold consts vals ys) (pass_all flat q cs) env over ws vs ts rs (calls ++ made_calls consts vals xs) (calls ++ (made_calls consts vals xs ++ made_calls consts vals ys))
-        (pass_all_is flat q consts vals next (at + 1) (next_after flat k c) cs vs rs (calls ++ made_calls consts vals xs) (and-second (cmd_there flat q c) (cmds_there flat q cs) t) (defined_right consts vals xs ys h)
-         ∙ ap (λ x. outcome (hold consts vals ys) over vs rs x) (append_assoc calls (made_calls consts vals xs) (made_calls consts vals ys)))
+    (pass_all_is flat q consts vals next (at + 1) (next_after flat k c) cs vs rs (calls ++ made_calls consts vals xs) (and-second (cmd_there flat q c) (cmds_there flat q cs) t) (defined_right consts vals xs ys h)
+    ∙ ap (λ x. outcome (hold consts vals ys) over vs rs x) (append_assoc calls (made_calls consts vals xs) (made_calls consts vals ys)))
     ∙ same_outcome (hold consts vals xs && hold consts vals ys) (hold consts vals (xs ++ ys)) over over vs rs
-        (calls ++ (made_calls consts vals xs ++ made_calls consts vals ys)) (calls ++ made_calls consts vals (xs ++ ys))
-        (sym (hold_append consts vals xs ys)) refl (ap (λ x. calls ++ x) (sym (calls_append consts vals xs ys)))
+    (calls ++ (made_calls consts vals xs ++ made_calls consts vals ys)) (calls ++ made_calls consts vals (xs ++ ys))
+    (sym (hold_append consts vals xs ys)) refl (ap (λ x. calls ++ x) (sym (calls_append consts vals xs ys)))
 
 pub items_say : ItemsSay
 items_say = λ flat q consts vals cur at k cmds vs rs calls there defined. pass_all_is flat q consts vals cur at k cmds vs rs calls there defined

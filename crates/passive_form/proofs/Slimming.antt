@@ -143,7 +143,6 @@ record Slim (flat : FlatProgram) (limits : List (List Bool)) (consts : List Valu
   pub passes : AllKeep flat calls results → (rest : List Result) → f (given consts s (slims limits calls results ++ rest)) ≡ Some (given consts t rest)
 
 module _ (flat : FlatProgram) (limits : List (List Bool)) (q : FlatProc) (consts : List Value) (are : AreLimits flat limits) where
-
   quiet : (f : State → Option State) (s t : FlatState) → s.results ≡ t.results → s.calls ≡ t.calls → ((rest : List Result) → f (given consts s rest) ≡ Some (given consts t rest)) → Slim flat limits consts f s t
   quiet f s t r c p = record { calls = []; results = []; results_are = r; calls_are = sym c ∙ sym (append-nil s.calls); one_each = refl; passes = λ k rest. p rest }
 
@@ -155,24 +154,27 @@ module _ (flat : FlatProgram) (limits : List (List Bool)) (q : FlatProc) (consts
     calls_are = b.calls_are ∙ ap (λ x. x ++ b.calls) a.calls_are ∙ append_assoc s.calls a.calls b.calls;
     one_each = omega (arith, a.one_each, b.one_each, length-append a.results b.results, length-append a.calls b.calls);
     passes = λ k rest.
-      let kk = keep_both flat a.calls b.calls a.results b.results a.one_each k in
-      let xs = slims limits a.calls a.results in
-      let ys = slims limits b.calls b.results in
-      ap (λ x. option_and_then g (f (given consts s (x ++ rest)))) (slims_append limits a.calls b.calls a.results b.results a.one_each)
-      ∙ ap (λ x. option_and_then g (f (given consts s x))) (append_assoc xs ys rest)
-      ∙ ap (option_and_then g) (a.passes kk.0 (ys ++ rest)) ∙ b.passes kk.1 rest }
+        let kk = keep_both flat a.calls b.calls a.results b.results a.one_each k in
+        let xs = slims limits a.calls a.results in
+        let ys = slims limits b.calls b.results in
+        ap (λ x. option_and_then g (f (given consts s (x ++ rest)))) (slims_append limits a.calls b.calls a.results b.results a.one_each)
+        ∙ ap (λ x. option_and_then g (f (given consts s x))) (append_assoc xs ys rest)
+        ∙ ap (option_and_then g) (a.passes kk.0 (ys ++ rest)) ∙ b.passes kk.1 rest;
+  }
 
   havoc_one_slim : (x : Var) (s m : FlatState) (values : List Value) → s.values ≡ values → flats.havoc_one (scope_of flat q) x s values ≡ Some m →
       (s.results ≡ m.results) × (s.calls ≡ m.calls) × ((rest : List Result) → havoc_with (limited flat limits) q x (given consts s rest) s.values ≡ Some (given consts m rest))
   havoc_one_slim x s m [] e h = cc
   havoc_one_slim x s m (v ∷ vs) e h =
       let c = choose (is_value_of (sort_of_target (scope_of flat q) x) v) (record s { store = store_write s.store x v; values = vs }) m h in
-      let test : is_value_of (sort_of (limited flat limits) q x) v ≡ true = ap (λ o. is_value_of o v) (sort_is flat limits q x) ∙ c.0 in
-      (ap (λ (y : FlatState). y.results) c.1, ap (λ (y : FlatState). y.calls) c.1,
-       λ rest. ap (havoc_with (limited flat limits) q x (given consts s rest)) e
-         ∙ ap (λ b. if b then Some (alone (write (env_with consts s.store) x v) vs rest s.calls) else None) test
-         ∙ ap (λ (y : Env). Some (alone y vs rest s.calls)) (sym (write_is consts s.store x v))
-         ∙ ap (λ (y : FlatState). Some (given consts y rest)) c.1)
+      let test : is_value_of (sort_of (limited flat limits) q x) v ≡ true = ap (λ o. is_value_of o v) (sort_is flat limits q x) ∙ c.0 in (
+        ap (λ (y : FlatState). y.results) c.1,
+        ap (λ (y : FlatState). y.calls) c.1,
+        λ rest. ap (havoc_with (limited flat limits) q x (given consts s rest)) e
+            ∙ ap (λ b. if b then Some (alone (write (env_with consts s.store) x v) vs rest s.calls) else None) test
+            ∙ ap (λ (y : Env). Some (alone y vs rest s.calls)) (sym (write_is consts s.store x v))
+            ∙ ap (λ (y : FlatState). Some (given consts y rest)) c.1,
+      )
 
   havoc_slim : (xs : List Var) (s t : FlatState) → flats.havoc (scope_of flat q) xs s ≡ Some t →
       (s.results ≡ t.results) × (s.calls ≡ t.calls) × ((rest : List Result) → havoc (limited flat limits) q xs (given consts s rest) ≡ Some (given consts t rest))
@@ -187,7 +189,7 @@ module _ (flat : FlatProgram) (limits : List (List Bool)) (q : FlatProc) (consts
   test_slim b s t h =
       let c = choose b s t h in
       quiet (λ x. if b then Some x else None) s t (ap (λ (y : FlatState). y.results) c.1) (ap (λ (y : FlatState). y.calls) c.1)
-          (λ rest. ap (λ x. if x then Some (given consts s rest) else None) c.0 ∙ ap (λ (y : FlatState). Some (given consts y rest)) c.1)
+      (λ rest. ap (λ x. if x then Some (given consts s rest) else None) c.0 ∙ ap (λ (y : FlatState). Some (given consts y rest)) c.1)
 
   call_slim : (p : ℕ) (args : List (List ExprNode)) (outs : List Var) (s t : FlatState) (results : List Result) → s.results ≡ results → flats.come_back flat s (flats.request consts s.store p args) outs results ≡ Some t →
       Slim flat limits consts (pass (limited flat limits) q (Call p args outs)) s t
@@ -201,18 +203,20 @@ module _ (flat : FlatProgram) (limits : List (List Bool)) (q : FlatProc) (consts
       let o_fit : sorted_as (outs_at (slice_get flat.procs p)) os ≡ true = sym (sorted_is os (outs_at (slice_get flat.procs p))) ∙ and-first (have_sorts os (outs_at (slice_get flat.procs p))) (have_sorts gs flat.globals) c.0 in
       let g_fit : sorted_as flat.globals gs ≡ true = sym (sorted_is gs flat.globals) ∙ and-second (have_sorts os (outs_at (slice_get flat.procs p))) (have_sorts gs flat.globals) c.0 in
       let fits : result_fits (limited flat limits) p os (picked marks gs) ≡ true =
-          and-both (sorted_as (outs_at (slice_get flat.procs p)) os) (sorted_as (picked marks flat.globals) (picked marks gs)) o_fit (picked_sorted marks flat.globals gs g_fit) in
+      and-both (sorted_as (outs_at (slice_get flat.procs p)) os) (sorted_as (picked marks flat.globals) (picked marks gs)) o_fit (picked_sorted marks flat.globals gs g_fit) in
       record {
-        calls = call ∷ []; results = Ended os gs ∷ [];
+        calls = call ∷ [];
+        results = Ended os gs ∷ [];
         results_are = is ∙ ap (λ (y : FlatState). Ended os gs ∷ y.results) c.1;
         calls_are = sym (ap (λ (y : FlatState). y.calls) c.1);
         one_each = refl;
         passes = λ k rest.
-          let env = env_with consts s.store in
-          ap (λ b. if b then Some (alone (write_all (after_call (limited flat limits) p env (picked marks gs)) outs os) s.values rest (s.calls ++ call ∷ [])) else None) fits
-          ∙ ap (λ (xs : List Value). Some (alone (write_all (record { consts = consts; globals = xs; locals = s.store.locals }) outs os) s.values rest (s.calls ++ call ∷ []))) (kept_globals flat limits call os gs are k.0)
-          ∙ ap (λ (y : Env). Some (alone y s.values rest (s.calls ++ call ∷ []))) (sym (writes_are consts (record { globals = gs; locals = s.store.locals }) outs os))
-          ∙ ap (λ (y : FlatState). Some (given consts y rest)) c.1 }
+            let env = env_with consts s.store in
+            ap (λ b. if b then Some (alone (write_all (after_call (limited flat limits) p env (picked marks gs)) outs os) s.values rest (s.calls ++ call ∷ [])) else None) fits
+            ∙ ap (λ (xs : List Value). Some (alone (write_all (record { consts = consts; globals = xs; locals = s.store.locals }) outs os) s.values rest (s.calls ++ call ∷ []))) (kept_globals flat limits call os gs are k.0)
+            ∙ ap (λ (y : Env). Some (alone y s.values rest (s.calls ++ call ∷ []))) (sym (writes_are consts (record { globals = gs; locals = s.store.locals }) outs os))
+            ∙ ap (λ (y : FlatState). Some (given consts y rest)) c.1;
+      }
 
   pass_slim : (c : FlatCmd) (s t : FlatState) → flats.pass flat q consts c s ≡ Some t → Slim flat limits consts (pass (limited flat limits) q c) s t
   pass_slim (Assign pairs) s t h =
@@ -220,19 +224,19 @@ module _ (flat : FlatProgram) (limits : List (List Bool)) (q : FlatProc) (consts
       let behind : FlatState = record s { store = store_write_all s.store (map (λ p. p.0) pairs) (map (λ p. eval env p.1) pairs) } in
       let e : behind ≡ t = some_same behind t h in
       let written : env_with consts behind.store ≡ write_all env (targets_of pairs) (assigned env pairs) =
-          writes_are consts s.store (map (λ p. p.0) pairs) (map (λ p. eval env p.1) pairs)
-          ∙ ap (λ xs. write_all env xs (map (λ p. eval env p.1) pairs)) (targets_are pairs) ∙ ap (write_all env (targets_of pairs)) (assigned_is env pairs) in
+      writes_are consts s.store (map (λ p. p.0) pairs) (map (λ p. eval env p.1) pairs)
+      ∙ ap (λ xs. write_all env xs (map (λ p. eval env p.1) pairs)) (targets_are pairs) ∙ ap (write_all env (targets_of pairs)) (assigned_is env pairs) in
       quiet (pass (limited flat limits) q (Assign pairs)) s t (ap (λ (y : FlatState). y.results) e) (ap (λ (y : FlatState). y.calls) e)
-          (λ rest. ap (λ (y : Env). Some (alone y s.values rest s.calls)) (sym written) ∙ ap (λ (y : FlatState). Some (given consts y rest)) e)
+      (λ rest. ap (λ (y : Env). Some (alone y s.values rest s.calls)) (sym written) ∙ ap (λ (y : FlatState). Some (given consts y rest)) e)
   pass_slim (Havoc xs) s t h = let r = havoc_slim xs s t h in quiet (pass (limited flat limits) q (Havoc xs)) s t r.0 r.1 r.2
   pass_slim (Assume expr) s t h =
       let c = choose (holds (env_with consts s.store) expr) s t h in
       quiet (pass (limited flat limits) q (Assume expr)) s t (ap (λ (y : FlatState). y.results) c.1) (ap (λ (y : FlatState). y.calls) c.1)
-          (λ rest. ap (λ x. if x then Some (given consts s rest) else None) c.0 ∙ ap (λ (y : FlatState). Some (given consts y rest)) c.1)
+      (λ rest. ap (λ x. if x then Some (given consts s rest) else None) c.0 ∙ ap (λ (y : FlatState). Some (given consts y rest)) c.1)
   pass_slim (Assert p n expr) s t h =
       let c = choose (holds (env_with consts s.store) expr) s t h in
       quiet (pass (limited flat limits) q (Assert p n expr)) s t (ap (λ (y : FlatState). y.results) c.1) (ap (λ (y : FlatState). y.calls) c.1)
-          (λ rest. ap (λ x. if x then Some (given consts s rest) else None) c.0 ∙ ap (λ (y : FlatState). Some (given consts y rest)) c.1)
+      (λ rest. ap (λ x. if x then Some (given consts s rest) else None) c.0 ∙ ap (λ (y : FlatState). Some (given consts y rest)) c.1)
   pass_slim (Call p args outs) s t h = call_slim p args outs s t s.results refl h
 
   all_slim : (cs : List FlatCmd) (s t : FlatState) → flats.pass_all flat q consts cs s ≡ Some t → Slim flat limits consts (pass_all (limited flat limits) q cs) s t
@@ -265,8 +269,13 @@ module _ (flat : FlatProgram) (limits : List (List Bool)) (q : FlatProc) (consts
       by false [] e is k =
           let same : ◌≡◌ {A = Result × List Request} (Broken p n, s.calls) (Broken proc number, calls) = some_same (Broken p n, s.calls) (Broken proc number, calls) k in
           record {
-            more = []; results = []; results_are = is; calls_are = sym (ap (λ (x : Result × List Request). x.1) same) ∙ sym (append-nil s.calls); one_each = refl;
-            fails = ap (λ b. if b then None else over p n s.calls []) e ∙ k }
+            more = [];
+            results = [];
+            results_are = is;
+            calls_are = sym (ap (λ (x : Result × List Request). x.1) same) ∙ sym (append-nil s.calls);
+            one_each = refl;
+            fails = ap (λ b. if b then None else over p n s.calls []) e ∙ k;
+          }
   fail_slim (Call p args outs) s proc number calls h = by s.results refl h
     where
       by : (results : List Result) → s.results ≡ results → flats.call_fails s (flats.request consts s.store p args) results ≡ Some (Broken proc number, calls) → Slain (Call p args outs) s proc number calls
@@ -293,29 +302,47 @@ module _ (flat : FlatProgram) (limits : List (List Bool)) (q : FlatProc) (consts
       let a = all_slim block.cmds s h.over h.passes in
       let rs = slims limits a.calls a.results in
       record {
-        more = a.calls; results = a.results;
+        more = a.calls;
+        results = a.results;
         results_are = a.results_are ∙ ap (λ x. a.results ++ x) h.results ∙ append-nil a.results;
         calls_are = h.calls_are ∙ a.calls_are;
         runs = λ k proc values. record {
-          last = block; arrived = given consts s rs; over = given consts h.over [];
+          last = block;
+          arrived = given consts s rs;
+          over = given consts h.over [];
           walks = ap (λ x. Some (x, given consts s rs)) at;
           passes = ap (λ x. pass_all (limited flat limits) q block.cmds (given consts s x)) (sym (append-nil rs)) ∙ a.passes k [];
-          returns = h.returns; taken = (h.values, refl); calls_are = h.calls_are; outs_are = h.outs_are; globals_are = h.globals_are } }
+          returns = h.returns;
+          taken = (h.values, refl);
+          calls_are = h.calls_are;
+          outs_are = h.outs_are;
+          globals_are = h.globals_are;
+        };
+      }
   stop_slim b block s calls (Broken proc number) at h =
       let a = all_slim h.before s h.over h.passes in
       let f = fail_slim h.at h.over proc number calls h.fails in
       let rs = slims limits (a.calls ++ f.more) (a.results ++ f.results) in
       record {
-        more = a.calls ++ f.more; results = a.results ++ f.results;
+        more = a.calls ++ f.more;
+        results = a.results ++ f.results;
         results_are = a.results_are ∙ ap (λ x. a.results ++ x) f.results_are;
         calls_are = f.calls_are ∙ ap (λ x. x ++ f.more) a.calls_are ∙ append_assoc s.calls a.calls f.more;
         runs = λ k p values. record {
-          last = block; arrived = given consts s rs; before = h.before; at = h.at; after = h.behind; over = given consts h.over (slims limits f.more f.results);
+          last = block;
+          arrived = given consts s rs;
+          before = h.before;
+          at = h.at;
+          after = h.behind;
+          over = given consts h.over (slims limits f.more f.results);
           walks = ap (λ x. Some (x, given consts s rs)) at;
           splits = h.splits;
           passes = ap (λ x. pass_all (limited flat limits) q h.before (given consts s x)) (slims_append limits a.calls f.more a.results f.results a.one_each)
               ∙ a.passes (keep_both flat a.calls f.more a.results f.results a.one_each k).0 (slims limits f.more f.results);
-          fails = f.fails; taken = h.values } }
+          fails = f.fails;
+          taken = h.values;
+        };
+      }
 
   -- one block more in front
   step_slim : (b c : ℕ) (block : FlatBlock) (place : ℕ) (path places : List ℕ) (s t : FlatState) (rs us : List Result) (calls : List Request) (result : Result) (proc : ℕ) (values : List Value) →
@@ -331,12 +358,34 @@ module _ (flat : FlatProgram) (limits : List (List Bool)) (q : FlatProc) (consts
           ap (λ x. if x then option_and_then go (pass_all (limited flat limits) q (cmds_of (slice_get q.blocks b)) (given consts s rs)) else None) target
           ∙ ap (λ x. option_and_then go (pass_all (limited flat limits) q (cmds_of x) (given consts s rs))) at
           ∙ ap (option_and_then go) passes ∙ h
+
       by : (r : Result) → LocalRun (limited flat limits) q (record { proc = proc; path = c ∷ path; places = places; values = values }) (given consts t []) us calls r →
           LocalRun (limited flat limits) q (record { proc = proc; path = b ∷ c ∷ path; places = place ∷ places; values = values }) (given consts s []) rs calls r
       by (Ended os gs) r = record {
-        last = r.last; arrived = r.arrived; over = r.over; walks = walks (Some r.last, r.arrived) r.walks; passes = r.passes; returns = r.returns; taken = r.taken; calls_are = r.calls_are; outs_are = r.outs_are; globals_are = r.globals_are }
+        last = r.last;
+        arrived = r.arrived;
+        over = r.over;
+        walks = walks (Some r.last, r.arrived) r.walks;
+        passes = r.passes;
+        returns = r.returns;
+        taken = r.taken;
+        calls_are = r.calls_are;
+        outs_are = r.outs_are;
+        globals_are = r.globals_are;
+      }
       by (Broken p n) r = record {
-        last = r.last; arrived = r.arrived; before = r.before; at = r.at; after = r.after; over = r.over; walks = walks (Some r.last, r.arrived) r.walks; splits = r.splits; passes = r.passes; fails = r.fails; taken = r.taken }
+        last = r.last;
+        arrived = r.arrived;
+        before = r.before;
+        at = r.at;
+        after = r.after;
+        over = r.over;
+        walks = walks (Some r.last, r.arrived) r.walks;
+        splits = r.splits;
+        passes = r.passes;
+        fails = r.fails;
+        taken = r.taken;
+      }
 
   tail_slim : (path places : List ℕ) (b : ℕ) (block : FlatBlock) (s : FlatState) (calls : List Request) (result : Result) → slice_get q.blocks b ≡ Some block →
       Tail flat q consts path places block.cmds block.next s calls result → Walked b path places s calls result
@@ -348,14 +397,16 @@ module _ (flat : FlatProgram) (limits : List (List Bool)) (q : FlatProc) (consts
       let a = all_slim block.cmds s t h.2 in
       let w = tail_slim path places c h.0 t calls result h.4 h.5 in
       record {
-        more = a.calls ++ w.more; results = a.results ++ w.results;
+        more = a.calls ++ w.more;
+        results = a.results ++ w.results;
         results_are = a.results_are ∙ ap (λ x. a.results ++ x) w.results_are;
         calls_are = w.calls_are ∙ ap (λ x. x ++ w.more) a.calls_are ∙ append_assoc s.calls a.calls w.more;
         runs = λ k proc values.
-          let kk = keep_both flat a.calls w.more a.results w.results a.one_each k in
-          step_slim b c block place path places s t (slims limits (a.calls ++ w.more) (a.results ++ w.results)) (slims limits w.more w.results) calls result proc values at h.3
-              (ap (λ x. pass_all (limited flat limits) q block.cmds (given consts s x)) (slims_append limits a.calls w.more a.results w.results a.one_each) ∙ a.passes kk.0 (slims limits w.more w.results))
-              (w.runs kk.1 proc values) }
+            let kk = keep_both flat a.calls w.more a.results w.results a.one_each k in
+            step_slim b c block place path places s t (slims limits (a.calls ++ w.more) (a.results ++ w.results)) (slims limits w.more w.results) calls result proc values at h.3
+            (ap (λ x. pass_all (limited flat limits) q block.cmds (given consts s x)) (slims_append limits a.calls w.more a.results w.results a.one_each) ∙ a.passes kk.0 (slims limits w.more w.results))
+            (w.runs kk.1 proc values);
+      }
 
 -- ---- the start
 
@@ -380,20 +431,23 @@ fill_is (x ∷ ss) s t h =
     let vs = one.1 in
     let next : FlatState = record s { store = record { globals = s.store.globals; locals = s.store.locals ++ v ∷ [] }; values = vs } in
     let rest = fill_is ss m.0 t m.2 in
-    let vs_are : (m.0).values ≡ vs = sym (ap (λ (y : FlatState). y.values) one.4) in
-    (ap (λ ws. sorted_as (x ∷ ss) (take (suc (length ss)) ws)) one.2 ∙ and-both (has_sort v x) (sorted_as ss (take (length ss) vs)) one.3 (ap (λ ws. sorted_as ss (take (length ss) ws)) (sym vs_are) ∙ rest.0),
-     rest.1 ∙ ap (filled ss) (sym one.4)
-     ∙ ap (λ (ls : List Value). record s { store = record { globals = s.store.globals; locals = ls }; values = drop (length ss) vs }) (append_assoc s.store.locals (v ∷ []) (take (length ss) vs))
-     ∙ ap (λ (ws : List Value). record s { store = record { globals = s.store.globals; locals = s.store.locals ++ take (suc (length ss)) ws }; values = drop (suc (length ss)) ws }) (sym one.2))
+    let vs_are : (m.0).values ≡ vs = sym (ap (λ (y : FlatState). y.values) one.4) in (
+      ap (λ ws. sorted_as (x ∷ ss) (take (suc (length ss)) ws)) one.2 ∙ and-both (has_sort v x) (sorted_as ss (take (length ss) vs)) one.3 (ap (λ ws. sorted_as ss (take (length ss) ws)) (sym vs_are) ∙ rest.0),
+      rest.1 ∙ ap (filled ss) (sym one.4)
+          ∙ ap (λ (ls : List Value). record s { store = record { globals = s.store.globals; locals = ls }; values = drop (length ss) vs }) (append_assoc s.store.locals (v ∷ []) (take (length ss) vs))
+          ∙ ap (λ (ws : List Value). record s { store = record { globals = s.store.globals; locals = s.store.locals ++ take (suc (length ss)) ws }; values = drop (suc (length ss)) ws }) (sym one.2),
+    )
 
 pub begin_is : (q : FlatProc) (kind : FlatKind) (consts globals args values : List Value) (begin : FlatState) → begin_of q kind globals args values ≡ Some begin →
     (start q kind consts globals args values ≡ Some (in_env consts begin)) × (begin.results ≡ []) × (begin.calls ≡ [])
 begin_is q (Source p) consts globals args values begin h =
     let ss = q.outs ++ q.locals in
-    let f = fill_is ss (record { store = record { globals = globals; locals = args }; values = values; results = []; calls = [] }) begin h in
-    (ap (λ b. if b then Some (alone (record { consts = consts; globals = globals; locals = args ++ take (length ss) values }) (drop (length ss) values) [] []) else None) f.0
-     ∙ ap (λ (y : FlatState). Some (in_env consts y)) (sym f.1),
-     ap (λ (y : FlatState). y.results) f.1, ap (λ (y : FlatState). y.calls) f.1)
+    let f = fill_is ss (record { store = record { globals = globals; locals = args }; values = values; results = []; calls = [] }) begin h in (
+      ap (λ b. if b then Some (alone (record { consts = consts; globals = globals; locals = args ++ take (length ss) values }) (drop (length ss) values) [] []) else None) f.0
+          ∙ ap (λ (y : FlatState). Some (in_env consts y)) (sym f.1),
+      ap (λ (y : FlatState). y.results) f.1,
+      ap (λ (y : FlatState). y.calls) f.1,
+    )
 begin_is q (Loop p head) consts globals args values begin h =
     let first : FlatState = record { store = record { globals = globals; locals = args ++ (args ++ (exit_value 0 ∷ map zero_of q.locals)) }; values = values; results = []; calls = [] } in
     let e : first ≡ begin = some_same first begin h in
@@ -411,9 +465,9 @@ limited_run = λ flat limits q consts track call begin results calls result are 
     let keep2 : AllKeep flat w.more w.results = subst (λ (rs : List Result). AllKeep flat w.more rs) w.results_are (subst (λ (cs : List Request). AllKeep flat cs results) w.calls_are keep) in
     let r = w.runs keep2 track.proc track.values in
     let same : given consts s [] ≡ in_env consts begin =
-        ap (λ (rs : List Result). alone (env_with consts begin.store) begin.values rs []) (sym bare.1) ∙ ap (λ (cs : List Request). alone (env_with consts begin.store) begin.values begin.results cs) (sym bare.2) in
+    ap (λ (rs : List Result). alone (env_with consts begin.store) begin.values rs []) (sym bare.1) ∙ ap (λ (cs : List Request). alone (env_with consts begin.store) begin.values begin.results cs) (sym bare.2) in
     let tracks : ◌≡◌ {A = Track} (record { proc = track.proc; path = 0 ∷ path; places = track.places; values = track.values }) track =
-        ap {B = Track} (λ (p : List ℕ). record { proc = track.proc; path = p; places = track.places; values = track.values }) (sym run.2) in
+    ap {B = Track} (λ (p : List ℕ). record { proc = track.proc; path = p; places = track.places; values = track.values }) (sym run.2) in
     subst (λ (x : Track). LocalRun (limited flat limits) q x (in_env consts begin) (slims limits calls results) calls result) tracks
     (subst (λ (x : State). LocalRun (limited flat limits) q (record { proc = track.proc; path = 0 ∷ path; places = track.places; values = track.values }) x (slims limits calls results) calls result) same
     (subst (λ (rs : List Result). LocalRun (limited flat limits) q (record { proc = track.proc; path = 0 ∷ path; places = track.places; values = track.values }) (given consts s []) (slims limits calls rs) calls result) (sym w.results_are)

@@ -50,7 +50,6 @@ sorts_good (s ∷ ss) h = (and-first (is_sort s) (list_all is_sort ss) h, sorts_
 -- ---- expressions and targets
 
 module _ (flat : FlatProgram) (limits : List (List Bool)) (q : FlatProc) (globals_good : list_all is_sort flat.globals ≡ true) (locals_good : list_all is_sort (variables_of q) ≡ true) where
-
   variable_is : (x : Var) → var_sort (limited flat limits) q x ≡ sort_of_variable (scope_of flat q) x
   variable_is (Const n) = refl
   variable_is (Global n) = refl
@@ -68,9 +67,10 @@ module _ (flat : FlatProgram) (limits : List (List Bool)) (q : FlatProc) (global
 
   reads_sorted : (nodes : List ExprNode) → list_all (node_fits (scope_of flat q)) nodes ≡ true → ReadsSorted (limited flat limits) q nodes
   reads_sorted [] h = tt
-  reads_sorted (Read x s ∷ nodes) h =
-      (variable_is x ∙ is_sort_of_is (sort_of_variable (scope_of flat q) x) s (and-first (is_sort_of (sort_of_variable (scope_of flat q) x) s) (list_all (node_fits (scope_of flat q)) nodes) h),
-       reads_sorted nodes (and-second (is_sort_of (sort_of_variable (scope_of flat q) x) s) (list_all (node_fits (scope_of flat q)) nodes) h))
+  reads_sorted (Read x s ∷ nodes) h = (
+    variable_is x ∙ is_sort_of_is (sort_of_variable (scope_of flat q) x) s (and-first (is_sort_of (sort_of_variable (scope_of flat q) x) s) (list_all (node_fits (scope_of flat q)) nodes) h),
+    reads_sorted nodes (and-second (is_sort_of (sort_of_variable (scope_of flat q) x) s) (list_all (node_fits (scope_of flat q)) nodes) h),
+  )
   reads_sorted (Lit a ∷ nodes) h = reads_sorted nodes h
   reads_sorted (Unary op c ∷ nodes) h = reads_sorted nodes h
   reads_sorted (Binary op l r ∷ nodes) h = reads_sorted nodes h
@@ -103,26 +103,30 @@ module _ (flat : FlatProgram) (limits : List (List Bool)) (q : FlatProc) (global
   targets_have [] [] h = tt
   targets_have [] (x ∷ xs) h = cc
   targets_have (s ∷ sorts) [] h = cc
-  targets_have (s ∷ sorts) (x ∷ xs) h =
-      (target_is x ∙ is_sort_of_is (sort_of_target (scope_of flat q) x) s (and-first (is_sort_of (sort_of_target (scope_of flat q) x) s) (targets_fit (scope_of flat q) sorts xs) h),
-       targets_have sorts xs (and-second (is_sort_of (sort_of_target (scope_of flat q) x) s) (targets_fit (scope_of flat q) sorts xs) h))
+  targets_have (s ∷ sorts) (x ∷ xs) h = (
+    target_is x ∙ is_sort_of_is (sort_of_target (scope_of flat q) x) s (and-first (is_sort_of (sort_of_target (scope_of flat q) x) s) (targets_fit (scope_of flat q) sorts xs) h),
+    targets_have sorts xs (and-second (is_sort_of (sort_of_target (scope_of flat q) x) s) (targets_fit (scope_of flat q) sorts xs) h),
+  )
 
   args_sorted : (sorts : List Sort) (args : List (List ExprNode)) → args_fit (scope_of flat q) sorts args ≡ true → AllSorted (limited flat limits) q args
   args_sorted [] [] h = tt
   args_sorted [] (e ∷ es) h = cc
   args_sorted (s ∷ sorts) [] h = cc
-  args_sorted (s ∷ sorts) (e ∷ es) h =
-      ((expr_sorted (Some s) e (and-first (expr_fits (scope_of flat q) (Some s) e) (args_fit (scope_of flat q) sorts es) h)).3,
-       args_sorted sorts es (and-second (expr_fits (scope_of flat q) (Some s) e) (args_fit (scope_of flat q) sorts es) h))
+  args_sorted (s ∷ sorts) (e ∷ es) h = (
+    (expr_sorted (Some s) e (and-first (expr_fits (scope_of flat q) (Some s) e) (args_fit (scope_of flat q) sorts es) h)).3,
+    args_sorted sorts es (and-second (expr_fits (scope_of flat q) (Some s) e) (args_fit (scope_of flat q) sorts es) h),
+  )
 
   -- ---- commands
 
   call_sorted : (callees_good : (p : ℕ) (r : FlatProc) → slice_get flat.procs p ≡ Some r → SortsGood r.outs) (p : ℕ) (args : List (List ExprNode)) (outs : List Var) (o : Option FlatProc) → slice_get flat.procs p ≡ o →
       call_fits (scope_of flat q) o args outs ≡ true → AllSorted (limited flat limits) q args × TargetsHave (limited flat limits) q outs (outs_at o) × SortsGood (outs_at o)
   call_sorted good p args outs None at h = cc
-  call_sorted good p args outs (Some r) at h =
-      (args_sorted r.ins args (and-first (args_fit (scope_of flat q) r.ins args) (targets_fit (scope_of flat q) r.outs outs) h),
-       targets_have r.outs outs (and-second (args_fit (scope_of flat q) r.ins args) (targets_fit (scope_of flat q) r.outs outs) h), good p r at)
+  call_sorted good p args outs (Some r) at h = (
+    args_sorted r.ins args (and-first (args_fit (scope_of flat q) r.ins args) (targets_fit (scope_of flat q) r.outs outs) h),
+    targets_have r.outs outs (and-second (args_fit (scope_of flat q) r.ins args) (targets_fit (scope_of flat q) r.outs outs) h),
+    good p r at,
+  )
 
   cmd_sorted : (callees_good : (p : ℕ) (r : FlatProc) → slice_get flat.procs p ≡ Some r → SortsGood r.outs) (c : FlatCmd) → cmd_fits flat.procs (scope_of flat q) c ≡ true → CmdSorted (limited flat limits) q c
   cmd_sorted good (Assign pairs) h = pairs_sorted pairs h
@@ -133,9 +137,10 @@ module _ (flat : FlatProgram) (limits : List (List Bool)) (q : FlatProc) (global
 
   cmds_sorted : (callees_good : (p : ℕ) (r : FlatProc) → slice_get flat.procs p ≡ Some r → SortsGood r.outs) (cs : List FlatCmd) → list_all (cmd_fits flat.procs (scope_of flat q)) cs ≡ true → CmdsSorted (limited flat limits) q cs
   cmds_sorted good [] h = tt
-  cmds_sorted good (c ∷ cs) h =
-      (cmd_sorted good c (and-first (cmd_fits flat.procs (scope_of flat q) c) (list_all (cmd_fits flat.procs (scope_of flat q)) cs) h),
-       cmds_sorted good cs (and-second (cmd_fits flat.procs (scope_of flat q) c) (list_all (cmd_fits flat.procs (scope_of flat q)) cs) h))
+  cmds_sorted good (c ∷ cs) h = (
+    cmd_sorted good c (and-first (cmd_fits flat.procs (scope_of flat q) c) (list_all (cmd_fits flat.procs (scope_of flat q)) cs) h),
+    cmds_sorted good cs (and-second (cmd_fits flat.procs (scope_of flat q) c) (list_all (cmd_fits flat.procs (scope_of flat q)) cs) h),
+  )
 
 leads_on : (blocks : ℕ) (next : FlatNext) → next_fits blocks next ≡ true → LeadsOn next
 leads_on blocks Return h = tt
@@ -172,6 +177,8 @@ procs_are_sorted = λ flat limits p q is at.
       locals = sorts_good q.locals (all_right is_sort q.outs q.locals rest);
       kind = kind_sorted q.kind q h.loop_outs;
       blocks = λ n b e.
-        let fits = all-at (block_fits flat.procs (scope_of flat q) (length q.blocks)) q.blocks n b h.blocks e in
-        (cmds_sorted flat limits q gs ls good b.cmds (and-first (list_all (cmd_fits flat.procs (scope_of flat q)) b.cmds) (next_fits (length q.blocks) b.next) fits),
-         leads_on (length q.blocks) b.next (and-second (list_all (cmd_fits flat.procs (scope_of flat q)) b.cmds) (next_fits (length q.blocks) b.next) fits)) }
+          let fits = all-at (block_fits flat.procs (scope_of flat q) (length q.blocks)) q.blocks n b h.blocks e in (
+            cmds_sorted flat limits q gs ls good b.cmds (and-first (list_all (cmd_fits flat.procs (scope_of flat q)) b.cmds) (next_fits (length q.blocks) b.next) fits),
+            leads_on (length q.blocks) b.next (and-second (list_all (cmd_fits flat.procs (scope_of flat q)) b.cmds) (next_fits (length q.blocks) b.next) fits),
+          );
+    }

@@ -141,15 +141,23 @@ passive_start flat q (Source p) =
     record {
       items = free_items (k + length q.ins) (q.outs ++ q.locals);
       globals = from 0 flat.globals;
-      locals = from k q.ins ++ from (k + length q.ins) (q.outs ++ q.locals) }
+      locals = from k q.ins ++ from (k + length q.ins) (q.outs ++ q.locals);
+    }
 passive_start flat q (Loop p head) =
     let k = length flat.globals in
     record {
       items = zero_items (k + length q.ins) (exit_sort ∷ q.locals);
       globals = from 0 flat.globals;
-      locals = from k q.ins ++ (from k q.ins ++ from (k + length q.ins) (exit_sort ∷ q.locals)) }
+      locals = from k q.ins ++ (from k q.ins ++ from (k + length q.ins) (exit_sort ∷ q.locals));
+    }
 
 abbrev pub passive_of : Limited → FlatProc → List ℕ → Passive
 passive_of flat q order = record {
-  consts = flat.consts; globals = flat.globals; ins = q.ins; outs = q.outs; locals = variables_of q;
-  start = passive_start flat q q.kind; blocks = passive_blocks flat q order }
+  consts = flat.consts;
+  globals = flat.globals;
+  ins = q.ins;
+  outs = q.outs;
+  locals = variables_of q;
+  start = passive_start flat q q.kind;
+  blocks = passive_blocks flat q order;
+}

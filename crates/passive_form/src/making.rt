@@ -6,9 +6,9 @@ ghost use Rattle.passive_form.specs.Making as spec;
 
 use crate::commands::{Draft, push_cmds};
 use crate::current::{Current, push_from};
+use crate::program::Program;
 use crate::starting::start;
 use crate::{Passive, PassiveBlock};
-use crate::program::Program;
 use flat_prog::{Flat, FlatCmd, FlatNext, FlatProc};
 use hy_val::Sort;
 use sqlite_items::{Items, at};

@@ -6,8 +6,8 @@ ghost use Rattle.flat_prog.specs.Shape.{exit_sort};
 
 use crate::current::push_from;
 use crate::numbers::higher;
-use crate::{Item, PassiveStart};
 use crate::program::Program;
+use crate::{Item, PassiveStart};
 use flat_prog::{FlatKind, FlatProc};
 use hy_val::{Scalar, Sort, Width};
 use sqlite_items::Items;
@@ -114,7 +114,11 @@ fn loop_start(
 }
 
 /// The start of a procedure over versions, by its kind.
-pub(crate) fn start(alloc: Global, program: &Program, proc: &FlatProc) -> Result<PassiveStart, AllocError>
+pub(crate) fn start(
+    alloc: Global,
+    program: &Program,
+    proc: &FlatProc,
+) -> Result<PassiveStart, AllocError>
     ensures { IfOk result (λ s. s ≡ spec.passive_start program.now proc.now proc.now.kind) }
 {
     match proc.kind {

@@ -100,21 +100,22 @@ off_passed (Some s) b d w cs = out_off b w s.env cs
 pub step_alike : (flat : Limited) (q : FlatProc) (d : Env) (g : Given) (es fs : List Edge) → Alike es fs → Alike (step flat q d g es) (step flat q d g fs)
 step_alike flat q d g es fs h =
     alike_append (others g.number es) (others g.number fs) (passed (through flat q g (entered g.number d es)) (reached g.number es) b d g.choices) (passed (through flat q g (entered g.number d fs)) (reached g.number fs) b d g.choices)
-        (alike_others g.number es fs h) (by (reached g.number fs) refl)
+    (alike_others g.number es fs h) (by (reached g.number fs) refl)
   where
     b : Option FlatBlock
     b = slice_get q.blocks g.number
+
     by : (r : Bool) → reached g.number fs ≡ r →
         Alike (passed (through flat q g (entered g.number d es)) (reached g.number es) b d g.choices) (passed (through flat q g (entered g.number d fs)) (reached g.number fs) b d g.choices)
     by true k =
         alike_is (passed (through flat q g (entered g.number d es)) (reached g.number es) b d g.choices) (passed (through flat q g (entered g.number d fs)) (reached g.number fs) b d g.choices)
-            (ap (λ r. passed (through flat q g (entered g.number d es)) r b d g.choices) (alike_reached g.number es fs h)
-             ∙ ap (λ v. passed (through flat q g v) (reached g.number fs) b d g.choices) (alike_entered g.number d d es fs h (inr k)))
+        (ap (λ r. passed (through flat q g (entered g.number d es)) r b d g.choices) (alike_reached g.number es fs h)
+        ∙ ap (λ v. passed (through flat q g v) (reached g.number fs) b d g.choices) (alike_entered g.number d d es fs h (inr k)))
     by false k =
         let P : Bool → Bool → Type 0 = λ x y. Alike (passed (through flat q g (entered g.number d es)) x b d g.choices) (passed (through flat q g (entered g.number d fs)) y b d g.choices) in
         let off : P false false =
-            alike_then (passed (through flat q g (entered g.number d es)) false b d g.choices) (out_of b false d g.choices) (passed (through flat q g (entered g.number d fs)) false b d g.choices)
-                (passed_off (through flat q g (entered g.number d es)) b d d g.choices) (off_passed (through flat q g (entered g.number d fs)) b d d g.choices) in
+        alike_then (passed (through flat q g (entered g.number d es)) false b d g.choices) (out_of b false d g.choices) (passed (through flat q g (entered g.number d fs)) false b d g.choices)
+        (passed_off (through flat q g (entered g.number d es)) b d d g.choices) (off_passed (through flat q g (entered g.number d fs)) b d d g.choices) in
         subst (λ (x : Bool). P x (reached g.number fs)) (sym (alike_reached g.number es fs h ∙ k)) (subst (λ (y : Bool). P false y) (sym k) off)
 
 -- at the end

@@ -28,8 +28,12 @@ pub record FoundAt (flat : Limited) (q : FlatProc) (d : Env) (P : Given → Type
 put_first : (flat : Limited) (q : FlatProc) (d : Env) (P : Given → Type 0) (g : Given) (ns : List ℕ) (es fs : List Edge) (c : Given) (env : Env) → P g → step flat q d g es ≡ fs → FoundAt flat q d P ns fs c env →
     FoundAt flat q d P (g.number ∷ ns) es c env
 put_first flat q d P g ns es fs c env good is f = record {
-  givens = g ∷ f.givens; good = (good, f.good); numbers = ap (λ x. g.number ∷ x) f.numbers; index = suc f.index;
-  at = ap (λ x. slice_get (seen flat q d f.givens x) f.index) is ∙ f.at }
+  givens = g ∷ f.givens;
+  good = (good, f.good);
+  numbers = ap (λ x. g.number ∷ x) f.numbers;
+  index = suc f.index;
+  at = ap (λ x. slice_get (seen flat q d f.givens x) f.index) is ∙ f.at;
+}
 
 pub map_same : (dull : ℕ → Given) → ((n : ℕ) → (dull n).number ≡ n) → (ns : List ℕ) → map (λ (g : Given). g.number) (map dull ns) ≡ ns
 map_same dull is [] = refl
@@ -52,8 +56,8 @@ next_here flat q d P ok n ns es s m c arrived block (Goto ts) place t path place
     let g : Given = record { number = n; values = u.values; results = u.results; choices = picks ts place } in
     let fs = others n es ++ fan true m.env ts (picks ts place) in
     put_first flat q d P g ns es fs c arrived.env (ok n block s m u (picks ts place) at (length_picks ts place ∙ sym (ap choice_count next)))
-        (step_is flat q d g es s.env block m.env u.calls one at u.does ∙ ap (λ x. others n es ++ out_next x true m.env (picks ts place)) next)
-        (rest fs t path places m (one_right (others n es) (fan true m.env ts (picks ts place)) (Some t) m.env (one_dead n es s.env one) (pick_fan m.env ts place t edge)) later more last)
+    (step_is flat q d g es s.env block m.env u.calls one at u.does ∙ ap (λ x. others n es ++ out_next x true m.env (picks ts place)) next)
+    (rest fs t path places m (one_right (others n es) (fan true m.env ts (picks ts place)) (Some t) m.env (one_dead n es s.env one) (pick_fan m.env ts place t edge)) later more last)
 
 on_path : (flat : Limited) (q : FlatProc) (d : Env) (P : Given → Type 0) → Fine flat q P → (n : ℕ) (ns : List ℕ) (es : List Edge) (s : State) (c : Given) (arrived : State) (o : Option FlatBlock) (place t : ℕ) (path places : List ℕ) →
     Rest flat q d P ns c arrived → One es (Some n) s.env → slice_get q.blocks n ≡ o → is_target (place_at o place) t ≡ true → option_and_then (walk flat q (t ∷ path) places) (pass_all flat q (cmds_of o) s) ≡ Some (slice_get q.blocks c.number, arrived) →
@@ -70,9 +74,13 @@ here flat q d dull is P pd ok n ns es [] [] s c arrived pc rest on one h last =
     let same : s ≡ arrived = ap (λ x. x.1) p in
     let one2 = subst (λ x. One es (Some x) s.env) (sym last) one in
     record {
-      givens = c ∷ map dull ns; good = (pc, each_dull P dull pd ns); numbers = ap (λ x. x ∷ map (λ (g : Given). g.number) (map dull ns)) last ∙ ap (λ x. n ∷ x) (map_same dull is ns); index = 0;
+      givens = c ∷ map dull ns;
+      good = (pc, each_dull P dull pd ns);
+      numbers = ap (λ x. x ∷ map (λ (g : Given). g.number) (map dull ns)) last ∙ ap (λ x. n ∷ x) (map_same dull is ns);
+      index = 0;
       at = ap {B = Option Seen} (λ x. Some (record { given = c; on = x; env = entered c.number d es })) (one_reached c.number es s.env one2)
-         ∙ ap {B = Option Seen} (λ x. Some (record { given = c; on = true; env = x })) (one_entered c.number d es s.env one2 ∙ ap (λ (x : State). x.env) same) }
+          ∙ ap {B = Option Seen} (λ x. Some (record { given = c; on = true; env = x })) (one_entered c.number d es s.env one2 ∙ ap (λ (x : State). x.env) same);
+    }
 here flat q d dull is P pd ok n ns es [] (place ∷ places) s c arrived pc rest on one h last = cc
 here flat q d dull is P pd ok n ns es (t ∷ path) [] s c arrived pc rest on one h last = cc
 here flat q d dull is P pd ok n ns es (t ∷ path) (place ∷ places) s c arrived pc rest on one h last =
@@ -85,12 +93,12 @@ by_number : (flat : Limited) (q : FlatProc) (d : Env) (dull : ℕ → Given) →
 by_number flat q d dull is P pd ok n ns c arrived pc rest on es b path places s true f one within h last =
     let same = number_is b n f in
     here flat q d dull is P pd ok n ns es path places s c arrived pc rest on (subst (λ x. One es (Some x) s.env) (sym same) one)
-        (ap (λ x. walk flat q (x ∷ path) places s) same ∙ h) (last ∙ ap (λ x. last_of x path) (sym same))
+    (ap (λ x. walk flat q (x ∷ path) places s) same ∙ h) (last ∙ ap (λ x. last_of x path) (sym same))
 by_number flat q d dull is P pd ok n ns c arrived pc rest on es b path places s false f one within h last =
     let off : is_target (Some b) (dull n).number ≡ false = ap (λ x. nat_eq b x) (is n) ∙ f in
     subst (λ x. FoundAt flat q d P (x ∷ ns) es c arrived.env) (is n)
-        (put_first flat q d P (dull n) ns es (step flat q d (dull n) es) c arrived.env (pd n) refl
-            (rest (step flat q d (dull n) es) b path places s (end_step flat q d (dull n) es (Some b) s.env off one) (split_or (nat_eq b n) (is_in b ns) within f) h last))
+    (put_first flat q d P (dull n) ns es (step flat q d (dull n) es) c arrived.env (pd n) refl
+    (rest (step flat q d (dull n) es) b path places s (end_step flat q d (dull n) es (Some b) s.env off one) (split_or (nat_eq b n) (is_in b ns) within f) h last))
 
 pub arrive : (flat : Limited) (q : FlatProc) (d : Env) (dull : ℕ → Given) → ((n : ℕ) → (dull n).number ≡ n) → (P : Given → Type 0) → ((n : ℕ) → P (dull n)) → Fine flat q P → (ns : List ℕ) (c : Given) (arrived : State) → P c → Onward q ns → Rest flat q d P ns c arrived
 arrive flat q d dull is P pd ok [] c arrived pc on es b path places s one within h last = cc

@@ -64,28 +64,29 @@ pub facts_first : (flat : Limited) (q : FlatProc) (d : Env) (g : Given) (gs : Li
     Facts flat q d gs fs rest m calls → Facts flat q d (g ∷ gs) es (first ++ rest) s calls
 facts_first flat q d g gs es fs block s m calls u first rest one at vs rs is out h =
     let does : pass_all flat q block.cmds (alone s.env g.values g.results []) ≡ Some (alone m.env [] [] u.calls) =
-        ap (λ x. pass_all flat q block.cmds (alone s.env x g.results [])) vs ∙ ap (λ x. pass_all flat q block.cmds (alone s.env u.values x [])) rs ∙ u.does in
+    ap (λ x. pass_all flat q block.cmds (alone s.env x g.results [])) vs ∙ ap (λ x. pass_all flat q block.cmds (alone s.env u.values x [])) rs ∙ u.does in
     let ps = passages flat q block.cmds true (alone s.env g.values g.results []) in
     let p = all_passes flat q block.cmds (alone s.env g.values g.results []) (alone m.env [] [] u.calls) does in
     let more = all_passages flat q (seen flat q d gs fs) in
     let all : all_passages flat q (seen flat q d (g ∷ gs) es) ≡ ps ++ more =
-        ap (λ x. x ++ all_passages flat q (seen flat q d gs (step flat q d g es))) (seen_is flat q d g es s.env block one at) ∙ ap (λ x. ps ++ all_passages flat q (seen flat q d gs x)) is in
+    ap (λ x. x ++ all_passages flat q (seen flat q d gs (step flat q d g es))) (seen_is flat q d g es s.env block one at) ∙ ap (λ x. ps ++ all_passages flat q (seen flat q d gs x)) is in
     record {
       edges_are =
-        ap (λ x. x ++ live_edges flat q d gs (step flat q d g es)) (out_is flat q d g es s.env block m.env u.calls one at does ∙ out)
-        ∙ ap (λ x. first ++ live_edges flat q d gs x) is ∙ ap (λ x. first ++ x) h.edges_are;
+          ap (λ x. x ++ live_edges flat q d gs (step flat q d g es)) (out_is flat q d g es s.env block m.env u.calls one at does ∙ out)
+          ∙ ap (λ x. first ++ live_edges flat q d gs x) is ∙ ap (λ x. first ++ x) h.edges_are;
       calls_are =
-        h.calls_are ∙ ap (λ x. x ++ on_requests more) (u.calls_are ∙ ap (λ x. s.calls ++ x) p.0) ∙ append_assoc s.calls (on_requests ps) (on_requests more)
-        ∙ ap (λ x. s.calls ++ x) (sym (ap on_requests all ∙ requests_append ps more));
+          h.calls_are ∙ ap (λ x. x ++ on_requests more) (u.calls_are ∙ ap (λ x. s.calls ++ x) p.0) ∙ append_assoc s.calls (on_requests ps) (on_requests more)
+          ∙ ap (λ x. s.calls ++ x) (sym (ap on_requests all ∙ requests_append ps more));
       results_are =
-        ap (map blamed) (ap (map some) u.results_are ∙ map-append some u.results m.results ∙ ap (λ x. map some x ++ map some m.results) (sym rs)
-            ∙ ap (λ x. x ++ map some m.results) (p.1 ∙ append-nil (on_results ps)))
-        ∙ map-append blamed (on_results ps) (map some m.results) ∙ ap (λ x. map blamed (on_results ps) ++ x) h.results_are
-        ∙ sym (ap (map blamed) (ap on_results all ∙ results_append ps more) ∙ map-append blamed (on_results ps) (on_results more));
+          ap (map blamed) (ap (map some) u.results_are ∙ map-append some u.results m.results ∙ ap (λ x. map some x ++ map some m.results) (sym rs)
+          ∙ ap (λ x. x ++ map some m.results) (p.1 ∙ append-nil (on_results ps)))
+          ∙ map-append blamed (on_results ps) (map some m.results) ∙ ap (λ x. map blamed (on_results ps) ++ x) h.results_are
+          ∙ sym (ap (map blamed) (ap on_results all ∙ results_append ps more) ∙ map-append blamed (on_results ps) (on_results more));
       values_are =
-        prefix_then g.values m.values (seen_values (seen flat q d gs fs)) s.values (u.values_are ∙ ap (λ x. x ++ m.values) (sym vs)) h.values_are
-        ∙ ap (take (length s.values)) (sym (seen_on flat q d g gs es s.env one ∙ ap (λ x. g.values ++ seen_values (seen flat q d gs x)) is));
-      broke = or_right (breaks_seen flat q (seen_at d g es)) (any_breaks flat q (seen flat q d gs (step flat q d g es))) (ap (λ x. any_breaks flat q (seen flat q d gs x)) is ∙ h.broke) }
+          prefix_then g.values m.values (seen_values (seen flat q d gs fs)) s.values (u.values_are ∙ ap (λ x. x ++ m.values) (sym vs)) h.values_are
+          ∙ ap (take (length s.values)) (sym (seen_on flat q d g gs es s.env one ∙ ap (λ x. g.values ++ seen_values (seen flat q d gs x)) is));
+      broke = or_right (breaks_seen flat q (seen_at d g es)) (any_breaks flat q (seen flat q d gs (step flat q d g es))) (ap (λ x. any_breaks flat q (seen flat q d gs x)) is ∙ h.broke);
+    }
 
 pub facts_off : (flat : Limited) (q : FlatProc) (d : Env) (g : Given) (gs : List Given) (es : List Edge) (edges : List (ℕ × ℕ)) (s : State) (calls : List Request) → reached g.number es ≡ false → Facts flat q d gs (step flat q d g es) edges s calls → Facts flat q d (g ∷ gs) es edges s calls
 facts_off flat q d g gs es edges s calls off h =
@@ -94,12 +95,13 @@ facts_off flat q d g gs es edges s calls off h =
     let more = all_passages flat q (seen flat q d gs (step flat q d g es)) in
     record {
       edges_are =
-        ap (λ r. edges_out g.number (through flat q g (entered g.number d es)) r (slice_get q.blocks g.number) g.choices ++ live_edges flat q d gs (step flat q d g es)) off
-        ∙ ap (λ r. r ++ live_edges flat q d gs (step flat q d g es)) (edges_off g.number (through flat q g (entered g.number d es)) (slice_get q.blocks g.number) g.choices) ∙ h.edges_are;
+          ap (λ r. edges_out g.number (through flat q g (entered g.number d es)) r (slice_get q.blocks g.number) g.choices ++ live_edges flat q d gs (step flat q d g es)) off
+          ∙ ap (λ r. r ++ live_edges flat q d gs (step flat q d g es)) (edges_off g.number (through flat q g (entered g.number d es)) (slice_get q.blocks g.number) g.choices) ∙ h.edges_are;
       calls_are = h.calls_are ∙ ap (λ r. s.calls ++ r) (sym (requests_append ps more ∙ ap (λ r. r ++ on_requests more) quiet.0));
       results_are = h.results_are ∙ ap (map blamed) (sym (results_append ps more ∙ ap (λ r. r ++ on_results more) quiet.1));
       values_are = h.values_are ∙ ap (take (length s.values)) (sym (seen_off flat q d g gs es off));
-      broke = or_right (breaks_seen flat q (seen_at d g es)) (any_breaks flat q (seen flat q d gs (step flat q d g es))) h.broke }
+      broke = or_right (breaks_seen flat q (seen_at d g es)) (any_breaks flat q (seen flat q d gs (step flat q d g es))) h.broke;
+    }
 
 pub facts_last : (flat : Limited) (q : FlatProc) (d : Env) (c : Given) (gs : List Given) (es : List Edge) (s : State) (calls : List Request) → One es (Some c.number) s.env → Last flat q c s calls → Facts flat q d (c ∷ gs) es [] s calls
 facts_last flat q d c gs es s calls one l =
@@ -108,32 +110,33 @@ facts_last flat q d c gs es s calls one l =
     let none : pass_all flat q l.block.cmds st ≡ None = ap (λ cs. pass_all flat q cs st) r.splits ∙ stop_all flat q r.before r.at r.after st r.over r.passes r.breaks_is in
     let fs = others c.number es ++ out_of (Some l.block) false d c.choices in
     let is : step flat q d c es ≡ fs =
-        ap (λ x. others c.number es ++ passed (through flat q c x) (reached c.number es) (slice_get q.blocks c.number) d c.choices) (one_entered c.number d es s.env one)
-        ∙ ap (λ x. others c.number es ++ passed (through flat q c s.env) x (slice_get q.blocks c.number) d c.choices) (one_reached c.number es s.env one)
-        ∙ ap (λ x. others c.number es ++ passed (closed (pass_all flat q (cmds_of x) st)) true x d c.choices) l.at
-        ∙ ap (λ x. others c.number es ++ passed (closed x) true (Some l.block) d c.choices) none in
+    ap (λ x. others c.number es ++ passed (through flat q c x) (reached c.number es) (slice_get q.blocks c.number) d c.choices) (one_entered c.number d es s.env one)
+    ∙ ap (λ x. others c.number es ++ passed (through flat q c s.env) x (slice_get q.blocks c.number) d c.choices) (one_reached c.number es s.env one)
+    ∙ ap (λ x. others c.number es ++ passed (closed (pass_all flat q (cmds_of x) st)) true x d c.choices) l.at
+    ∙ ap (λ x. others c.number es ++ passed (closed x) true (Some l.block) d c.choices) none in
     let out : edges_out c.number (through flat q c (entered c.number d es)) (reached c.number es) (slice_get q.blocks c.number) c.choices ≡ [] =
-        ap (λ x. edges_out c.number (through flat q c x) (reached c.number es) (slice_get q.blocks c.number) c.choices) (one_entered c.number d es s.env one)
-        ∙ ap (λ x. edges_out c.number (through flat q c s.env) x (slice_get q.blocks c.number) c.choices) (one_reached c.number es s.env one)
-        ∙ ap (λ x. edges_out c.number (closed (pass_all flat q (cmds_of x) st)) true x c.choices) l.at
-        ∙ ap (λ x. edges_out c.number (closed x) true (Some l.block) c.choices) none in
+    ap (λ x. edges_out c.number (through flat q c x) (reached c.number es) (slice_get q.blocks c.number) c.choices) (one_entered c.number d es s.env one)
+    ∙ ap (λ x. edges_out c.number (through flat q c s.env) x (slice_get q.blocks c.number) c.choices) (one_reached c.number es s.env one)
+    ∙ ap (λ x. edges_out c.number (closed (pass_all flat q (cmds_of x) st)) true x c.choices) l.at
+    ∙ ap (λ x. edges_out c.number (closed x) true (Some l.block) c.choices) none in
     let still = dead_still flat q d gs fs (dead_append (others c.number es) (out_of (Some l.block) false d c.choices) (one_dead c.number es s.env one) (dead_out (Some l.block) d c.choices)) in
     let ps = passages flat q l.block.cmds true st in
     let more = all_passages flat q (seen flat q d gs fs) in
     let all : all_passages flat q (seen flat q d (c ∷ gs) es) ≡ ps ++ more =
-        ap (λ x. x ++ all_passages flat q (seen flat q d gs (step flat q d c es))) (seen_is flat q d c es s.env l.block one l.at) ∙ ap (λ x. ps ++ all_passages flat q (seen flat q d gs x)) is in
+    ap (λ x. x ++ all_passages flat q (seen flat q d gs (step flat q d c es))) (seen_is flat q d c es s.env l.block one l.at) ∙ ap (λ x. ps ++ all_passages flat q (seen flat q d gs x)) is in
     let on : breaks_seen flat q (seen_at d c es) ≡ true =
-        ap (λ x. reached c.number es && breaks flat q (cmds_of (slice_get q.blocks c.number)) (alone x c.values c.results [])) (one_entered c.number d es s.env one)
-        ∙ ap (λ x. x && breaks flat q (cmds_of (slice_get q.blocks c.number)) st) (one_reached c.number es s.env one)
-        ∙ ap (λ x. breaks flat q (cmds_of x) st) l.at ∙ l.breaks_is in
+    ap (λ x. reached c.number es && breaks flat q (cmds_of (slice_get q.blocks c.number)) (alone x c.values c.results [])) (one_entered c.number d es s.env one)
+    ∙ ap (λ x. x && breaks flat q (cmds_of (slice_get q.blocks c.number)) st) (one_reached c.number es s.env one)
+    ∙ ap (λ x. breaks flat q (cmds_of x) st) l.at ∙ l.breaks_is in
     record {
       edges_are = ap (λ x. x ++ live_edges flat q d gs (step flat q d c es)) out ∙ ap (live_edges flat q d gs) is ∙ still.0;
       calls_are = l.asks ∙ ap (λ x. s.calls ++ x) (sym (ap on_requests all ∙ requests_append ps more ∙ ap (λ x. on_requests ps ++ x) still.1.0 ∙ append-nil (on_requests ps)));
       results_are = l.gets ∙ ap (map blamed) (sym (ap on_results all ∙ results_append ps more ∙ ap (λ x. on_results ps ++ x) still.1.1 ∙ append-nil (on_results ps)));
       values_are =
-        l.takes
-        ∙ ap (take (length s.values)) (sym (append-nil c.values) ∙ ap (λ x. c.values ++ x) (sym still.3) ∙ sym (seen_on flat q d c gs es s.env one ∙ ap (λ x. c.values ++ seen_values (seen flat q d gs x)) is));
-      broke = ap (λ x. x || any_breaks flat q (seen flat q d gs (step flat q d c es))) on }
+          l.takes
+          ∙ ap (take (length s.values)) (sym (append-nil c.values) ∙ ap (λ x. c.values ++ x) (sym still.3) ∙ sym (seen_on flat q d c gs es s.env one ∙ ap (λ x. c.values ++ seen_values (seen flat q d gs x)) is));
+      broke = ap (λ x. x || any_breaks flat q (seen flat q d gs (step flat q d c es))) on;
+    }
 
 abbrev Rest : Limited → FlatProc → Env → (Given → Type 0) → List ℕ → Given → State → List Request → Type 0
 Rest flat q d P ns c arrived calls = (es : List Edge) (b : ℕ) (path places : List ℕ) (s : State) → One es (Some b) s.env → is_in b ns ≡ true →
@@ -151,9 +154,12 @@ next_here flat q d P ok n ns es s m c arrived calls block (Goto ts) place t path
     let step_to : step flat q d g es ≡ fs = step_is flat q d g es s.env block m.env u.calls one at u.does ∙ ap (λ x. others n es ++ out_next x true m.env (picks ts place)) next in
     let zero_place : 0 + place ≡ place = omega arith in
     record {
-      givens = g ∷ f.givens; numbers = ap (λ x. n ∷ x) f.numbers; good = (ok n block s m u (picks ts place) at (length_picks ts place ∙ sym (ap choice_count next)), f.good);
+      givens = g ∷ f.givens;
+      numbers = ap (λ x. n ∷ x) f.numbers;
+      good = (ok n block s m u (picks ts place) at (length_picks ts place ∙ sym (ap choice_count next)), f.good);
       facts = facts_first flat q d g f.givens es fs block s m calls u ((n, place) ∷ []) (edges_of (t ∷ path) places) one at refl refl step_to
-          (ap (λ x. edges_next n x true m.env (picks ts place)) next ∙ pick_places m.env n 0 ts place t edge ∙ ap {B = List (ℕ × ℕ)} (λ x. (n, x) ∷ []) zero_place) f.facts }
+          (ap (λ x. edges_next n x true m.env (picks ts place)) next ∙ pick_places m.env n 0 ts place t edge ∙ ap {B = List (ℕ × ℕ)} (λ x. (n, x) ∷ []) zero_place) f.facts;
+    }
 
 on_path : (flat : Limited) (q : FlatProc) (d : Env) (P : Given → Type 0) → Fine flat q P → (n : ℕ) (ns : List ℕ) (es : List Edge) (s : State) (c : Given) (arrived : State) (calls : List Request) (o : Option FlatBlock) (place t : ℕ) (path places : List ℕ) →
     Rest flat q d P ns c arrived calls → One es (Some n) s.env → slice_get q.blocks n ≡ o → is_target (place_at o place) t ≡ true →
@@ -172,8 +178,11 @@ here flat q d dull is P pd ok n ns es [] [] s c arrived calls pc l rest on one h
     let same : s ≡ arrived = ap (λ x. x.1) p in
     let one2 = subst (λ x. One es (Some x) s.env) (sym last) one in
     record {
-      givens = c ∷ map dull ns; numbers = ap (λ x. x ∷ map (λ (g : Given). g.number) (map dull ns)) last ∙ ap (λ x. n ∷ x) (map_same dull is ns); good = (pc, each_dull P dull pd ns);
-      facts = facts_last flat q d c (map dull ns) es s calls one2 (subst (λ (x : State). Last flat q c x calls) (sym same) l) }
+      givens = c ∷ map dull ns;
+      numbers = ap (λ x. x ∷ map (λ (g : Given). g.number) (map dull ns)) last ∙ ap (λ x. n ∷ x) (map_same dull is ns);
+      good = (pc, each_dull P dull pd ns);
+      facts = facts_last flat q d c (map dull ns) es s calls one2 (subst (λ (x : State). Last flat q c x calls) (sym same) l);
+    }
 here flat q d dull is P pd ok n ns es [] (place ∷ places) s c arrived calls pc l rest on one h last = cc
 here flat q d dull is P pd ok n ns es (t ∷ path) [] s c arrived calls pc l rest on one h last = cc
 here flat q d dull is P pd ok n ns es (t ∷ path) (place ∷ places) s c arrived calls pc l rest on one h last =
@@ -186,14 +195,17 @@ by_number : (flat : Limited) (q : FlatProc) (d : Env) (dull : ℕ → Given) →
 by_number flat q d dull is P pd ok n ns c arrived calls pc l rest on es b path places s true f one within h last =
     let same = number_is b n f in
     subst (λ (x : ℕ). FoundLast flat q d P (n ∷ ns) es (edges_of (x ∷ path) places) s calls) same
-        (here flat q d dull is P pd ok n ns es path places s c arrived calls pc l rest on (subst (λ x. One es (Some x) s.env) (sym same) one)
-            (ap (λ x. walk flat q (x ∷ path) places s) same ∙ h) (last ∙ ap (λ x. last_of x path) (sym same)))
+    (here flat q d dull is P pd ok n ns es path places s c arrived calls pc l rest on (subst (λ x. One es (Some x) s.env) (sym same) one)
+    (ap (λ x. walk flat q (x ∷ path) places s) same ∙ h) (last ∙ ap (λ x. last_of x path) (sym same)))
 by_number flat q d dull is P pd ok n ns c arrived calls pc l rest on es b path places s false f one within h last =
     let off : is_target (Some b) (dull n).number ≡ false = ap (λ x. nat_eq b x) (is n) ∙ f in
     let r = rest (step flat q d (dull n) es) b path places s (end_step flat q d (dull n) es (Some b) s.env off one) (split_or (nat_eq b n) (is_in b ns) within f) h last in
     record {
-      givens = dull n ∷ r.givens; numbers = ap (λ x. x ∷ map (λ (g : Given). g.number) r.givens) (is n) ∙ ap (λ x. n ∷ x) r.numbers; good = (pd n, r.good);
-      facts = facts_off flat q d (dull n) r.givens es (edges_of (b ∷ path) places) s calls (one_unreached (dull n).number es (Some b) s.env off one) r.facts }
+      givens = dull n ∷ r.givens;
+      numbers = ap (λ x. x ∷ map (λ (g : Given). g.number) r.givens) (is n) ∙ ap (λ x. n ∷ x) r.numbers;
+      good = (pd n, r.good);
+      facts = facts_off flat q d (dull n) r.givens es (edges_of (b ∷ path) places) s calls (one_unreached (dull n).number es (Some b) s.env off one) r.facts;
+    }
 
 pub arrives : (flat : Limited) (q : FlatProc) (d : Env) (dull : ℕ → Given) → ((n : ℕ) → (dull n).number ≡ n) → (P : Given → Type 0) → ((n : ℕ) → P (dull n)) → Fine flat q P → (ns : List ℕ) (c : Given) (arrived : State) (calls : List Request) → P c →
     Last flat q c arrived calls → Onward q ns → Rest flat q d P ns c arrived calls

@@ -118,8 +118,13 @@ same_sorts nodes (y ∷ ys) (n ∷ ns) (s ∷ ss) (h, hs) (k, ks) = ((s, h, k), 
 pub enter_start : (old : List TermNode) (spare : Wait) (waits : List Wait) (goal : Option ℕ) (w : Wait) → EnterReady old spare waits → w ≡ spare → EnterSoFar old spare waits goal 0 old w false
 enter_start old spare waits goal w r is =
     subst (λ (x : Wait). EnterSoFar old spare waits goal 0 old x false) (sym is) (record {
-      later = later_same old r.sound; plain = plain_same old; are = λ gs ls h k. h; none = λ e a consts. refl;
-      live_is = λ a consts f. r.spare_off a; env_is = λ a consts d f h. cc })
+      later = later_same old r.sound;
+      plain = plain_same old;
+      are = λ gs ls h k. h;
+      none = λ e a consts. refl;
+      live_is = λ a consts f. r.spare_off a;
+      env_is = λ a consts d f h. cc;
+    })
 
 off_and : (b c : Bool) → b ≡ false → (b && c) ≡ false
 off_and b c h = ap (λ x. x && c) h
@@ -136,16 +141,19 @@ pub enter_skip : (old new : List TermNode) (spare : Wait) (waits : List Wait) (g
     EnterSoFar old spare waits goal i new entry found → EnterSoFar old spare waits goal (i + 1) new entry found
 enter_skip old new spare waits goal i entry wait found l is off h =
     let met_is : (a : ℕ → Value) (consts : List Value) → met goal (edges_at a old consts (take (i + 1) waits)) ≡ met goal (edges_at a old consts (take i waits)) = λ a consts.
-        ap (met goal) (edges_take a old consts waits i wait l is) ∙ met_push goal (edges_at a old consts (take i waits)) (edge_at a old consts wait)
-        ∙ or_off (met goal (edges_at a old consts (take i waits))) (arrives goal (edge_at a old consts wait)) (off_and (wanted wait.target goal) (is_on (value a old wait.live)) off) in
+    ap (met goal) (edges_take a old consts waits i wait l is) ∙ met_push goal (edges_at a old consts (take i waits)) (edge_at a old consts wait)
+    ∙ or_off (met goal (edges_at a old consts (take i waits))) (arrives goal (edge_at a old consts wait)) (off_and (wanted wait.target goal) (is_on (value a old wait.live)) off) in
     record {
-      later = h.later; plain = h.plain; are = h.are;
+      later = h.later;
+      plain = h.plain;
+      are = h.are;
       none = λ e a consts. met_is a consts ∙ h.none e a consts;
       live_is = λ a consts f. h.live_is a consts f ∙ sym (met_is a consts);
       env_is = λ a consts d f m.
-        h.env_is a consts d f (sym (met_is a consts) ∙ m)
-        ∙ sym (ap (met_env goal d) (edges_take a old consts waits i wait l is) ∙ met_env_push goal d (edges_at a old consts (take i waits)) (edge_at a old consts wait)
-            ∙ ap (λ b. if b then env_at a old consts wait.globals wait.locals else met_env goal d (edges_at a old consts (take i waits))) (off_and (wanted wait.target goal) (is_on (value a old wait.live)) off)) }
+          h.env_is a consts d f (sym (met_is a consts) ∙ m)
+          ∙ sym (ap (met_env goal d) (edges_take a old consts waits i wait l is) ∙ met_env_push goal d (edges_at a old consts (take i waits)) (edge_at a old consts wait)
+          ∙ ap (λ b. if b then env_at a old consts wait.globals wait.locals else met_env goal d (edges_at a old consts (take i waits))) (off_and (wanted wait.target goal) (is_on (value a old wait.live)) off));
+    }
 
 -- the first edge
 pub enter_first : (old new : List TermNode) (spare : Wait) (waits : List Wait) (goal : Option ℕ) (i : ℕ) (entry wait w : Wait) (found : Bool) → EnterReady old spare waits → i < length waits → wait ≡ slice_index_or waits i wait → wanted wait.target goal ≡ true → found ≡ false →
@@ -155,18 +163,20 @@ enter_first old new spare waits goal i entry wait w found r l is on off h same =
     let there = of_there old r.gs r.ls wait of in
     let e = λ (a : ℕ → Value) (consts : List Value). edge_at a old consts wait in
     let met_is : (a : ℕ → Value) (consts : List Value) → met goal (edges_at a old consts (take (i + 1) waits)) ≡ is_on (value a old wait.live) = λ a consts.
-        ap (met goal) (edges_take a old consts waits i wait l is) ∙ met_push goal (edges_at a old consts (take i waits)) (e a consts)
-        ∙ ap (λ b. b || arrives goal (e a consts)) (h.none off a consts) ∙ on_and (wanted wait.target goal) (is_on (value a old wait.live)) on in
+    ap (met goal) (edges_take a old consts waits i wait l is) ∙ met_push goal (edges_at a old consts (take i waits)) (e a consts)
+    ∙ ap (λ b. b || arrives goal (e a consts)) (h.none off a consts) ∙ on_and (wanted wait.target goal) (is_on (value a old wait.live)) on in
     subst (λ (x : Wait). EnterSoFar old spare waits goal (i + 1) new x true) (sym same) (record {
-      later = h.later; plain = h.plain;
+      later = h.later;
+      plain = h.plain;
       are = λ gs ls p k. of_later old new gs ls wait h.later (wait_at old gs ls waits i wait k l is);
       none = λ e. cc;
       live_is = λ a consts f. bit_later old new a wait.live h.later there.live ∙ sym (met_is a consts);
       env_is = λ a consts d f m.
-        let live : is_on (value a old wait.live) ≡ true = sym (met_is a consts) ∙ m in
-        ap (λ (x : Edge). x.env) (edge_later old new a consts wait h.later there)
-        ∙ sym (ap (met_env goal d) (edges_take a old consts waits i wait l is) ∙ met_env_push goal d (edges_at a old consts (take i waits)) (e a consts)
-            ∙ ap (λ b. if b then env_at a old consts wait.globals wait.locals else met_env goal d (edges_at a old consts (take i waits))) (on_and (wanted wait.target goal) (is_on (value a old wait.live)) on ∙ live)) })
+          let live : is_on (value a old wait.live) ≡ true = sym (met_is a consts) ∙ m in
+          ap (λ (x : Edge). x.env) (edge_later old new a consts wait h.later there)
+          ∙ sym (ap (met_env goal d) (edges_take a old consts waits i wait l is) ∙ met_env_push goal d (edges_at a old consts (take i waits)) (e a consts)
+          ∙ ap (λ b. if b then env_at a old consts wait.globals wait.locals else met_env goal d (edges_at a old consts (take i waits))) (on_and (wanted wait.target goal) (is_on (value a old wait.live)) on ∙ live));
+    })
 
 if_env : (consts : List Value) (b : Bool) (g g' l l' : List Value) → ◌≡◌ {A = Env} (record { consts = consts; globals = if b then g else g'; locals = if b then l else l' })
     (if b then record { consts = consts; globals = g; locals = l } else record { consts = consts; globals = g'; locals = l' })
@@ -193,31 +203,33 @@ enter_more old mid new spare waits goal i entry wait w found r l is on h later p
     let e = λ (a : ℕ → Value) (consts : List Value). edge_at a old consts wait in
     let before = λ (a : ℕ → Value) (consts : List Value). edges_at a old consts (take i waits) in
     let met_is : (a : ℕ → Value) (consts : List Value) → met goal (edges_at a old consts (take (i + 1) waits)) ≡ (met goal (before a consts) || is_on (value a old wait.live)) = λ a consts.
-        ap (met goal) (edges_take a old consts waits i wait l is) ∙ met_push goal (before a consts) (e a consts)
-        ∙ ap (λ b. met goal (before a consts) || b) (on_and (wanted wait.target goal) (is_on (value a old wait.live)) on) in
+    ap (met goal) (edges_take a old consts waits i wait l is) ∙ met_push goal (before a consts) (e a consts)
+    ∙ ap (λ b. met goal (before a consts) || b) (on_and (wanted wait.target goal) (is_on (value a old wait.live)) on) in
     record {
-      later = later_then old mid new h.later later; plain = plain_then old mid new h.plain plain;
+      later = later_then old mid new h.later later;
+      plain = plain_then old mid new h.plain plain;
       are = λ gs ls p k.
-        let x = of_later old mid gs ls wait h.later (wait_at old gs ls waits i wait k l is) in
-        record { live = j.there.live; globals = j.globals gs x.globals; locals = j.locals ls x.locals };
+          let x = of_later old mid gs ls wait h.later (wait_at old gs ls waits i wait k l is) in
+          record { live = j.there.live; globals = j.globals gs x.globals; locals = j.locals ls x.locals };
       none = λ e. cc;
       live_is = λ a consts f.
-        j.live_is a f ∙ ap (λ b. b || is_on (value a mid wait.live)) (h.live_is a consts (fits_before a mid new later f)) ∙ ap (λ b. met goal (before a consts) || b) (bit_later old mid a wait.live h.later there.live)
-        ∙ sym (met_is a consts);
+          j.live_is a f ∙ ap (λ b. b || is_on (value a mid wait.live)) (h.live_is a consts (fits_before a mid new later f)) ∙ ap (λ b. met goal (before a consts) || b) (bit_later old mid a wait.live h.later there.live)
+          ∙ sym (met_is a consts);
       env_is = λ a consts d f m.
-        let f1 = fits_before a mid new later f in
-        let live = is_on (value a old wait.live) in
-        let live_is : is_on (value a mid wait.live) ≡ live = bit_later old mid a wait.live h.later there.live in
-        let any : (met goal (before a consts) || live) ≡ true = sym (met_is a consts) ∙ m in
-        let y = env_at a mid consts entry.globals entry.locals in
-        same_env consts (all_at a new w.globals) (if is_on (value a mid wait.live) then all_at a mid wait.globals else all_at a mid entry.globals)
-            (all_at a new w.locals) (if is_on (value a mid wait.live) then all_at a mid wait.locals else all_at a mid entry.locals) (j.globals_are a f) (j.locals_are a f)
-        ∙ if_env consts (is_on (value a mid wait.live)) (all_at a mid wait.globals) (all_at a mid entry.globals) (all_at a mid wait.locals) (all_at a mid entry.locals)
-        ∙ ap (λ b. if b then env_at a mid consts wait.globals wait.locals else y) live_is
-        ∙ ap (λ x. if live then x else y) (ap (λ (x : Edge). x.env) (edge_later old mid a consts wait h.later there))
-        ∙ if_else live (env_at a old consts wait.globals wait.locals) y (met_env goal d (before a consts)) (λ k. h.env_is a consts d f1 (or_left (met goal (before a consts)) live any k))
-        ∙ sym (ap (met_env goal d) (edges_take a old consts waits i wait l is) ∙ met_env_push goal d (before a consts) (e a consts)
-            ∙ ap (λ b. if b then env_at a old consts wait.globals wait.locals else met_env goal d (before a consts)) (on_and (wanted wait.target goal) live on)) }
+          let f1 = fits_before a mid new later f in
+          let live = is_on (value a old wait.live) in
+          let live_is : is_on (value a mid wait.live) ≡ live = bit_later old mid a wait.live h.later there.live in
+          let any : (met goal (before a consts) || live) ≡ true = sym (met_is a consts) ∙ m in
+          let y = env_at a mid consts entry.globals entry.locals in
+          same_env consts (all_at a new w.globals) (if is_on (value a mid wait.live) then all_at a mid wait.globals else all_at a mid entry.globals)
+          (all_at a new w.locals) (if is_on (value a mid wait.live) then all_at a mid wait.locals else all_at a mid entry.locals) (j.globals_are a f) (j.locals_are a f)
+          ∙ if_env consts (is_on (value a mid wait.live)) (all_at a mid wait.globals) (all_at a mid entry.globals) (all_at a mid wait.locals) (all_at a mid entry.locals)
+          ∙ ap (λ b. if b then env_at a mid consts wait.globals wait.locals else y) live_is
+          ∙ ap (λ x. if live then x else y) (ap (λ (x : Edge). x.env) (edge_later old mid a consts wait h.later there))
+          ∙ if_else live (env_at a old consts wait.globals wait.locals) y (met_env goal d (before a consts)) (λ k. h.env_is a consts d f1 (or_left (met goal (before a consts)) live any k))
+          ∙ sym (ap (met_env goal d) (edges_take a old consts waits i wait l is) ∙ met_env_push goal d (before a consts) (e a consts)
+          ∙ ap (λ b. if b then env_at a old consts wait.globals wait.locals else met_env goal d (before a consts)) (on_and (wanted wait.target goal) live on));
+    }
 
 pub enter_end : (old new : List TermNode) (spare : Wait) (waits : List Wait) (goal : Option ℕ) (i : ℕ) (w : Wait) (found : Bool) → length waits ≤ i → EnterSoFar old spare waits goal i new w found → Entered old spare waits goal new w
 enter_end old new spare waits goal i w found l h =
@@ -225,7 +237,8 @@ enter_end old new spare waits goal i w found l h =
     record {
       are = h.are;
       live_is = λ a consts f. h.live_is a consts f ∙ ap (λ ws. met goal (edges_at a old consts ws)) all;
-      env_is = λ a consts d f m. h.env_is a consts d f (ap (λ ws. met goal (edges_at a old consts ws)) all ∙ m) ∙ ap (λ ws. met_env goal d (edges_at a old consts ws)) all }
+      env_is = λ a consts d f m. h.env_is a consts d f (ap (λ ws. met goal (edges_at a old consts ws)) all ∙ m) ∙ ap (λ ws. met_env goal d (edges_at a old consts ws)) all;
+    }
 
 -- ---- what is kept
 

@@ -38,7 +38,7 @@ given_by vals n items cs = record { number = n; values = taken_values vals items
 pub block_law : (flat : Limited) (q : FlatProc) (d : Env) (consts : List Value) (vals : ℕ → Value) (n : ℕ) (b : FlatBlock) (es : List Edge) (cs : List Bool) → slice_get q.blocks n ≡ Some b → cmds_there flat q b.cmds ≡ true →
     Defined consts vals (items_all flat q (entry_cur flat q) 0 (entry_count flat q) b.cmds) → (reached n es ≡ true → env_of consts vals (entry_cur flat q) ≡ entered n d es) →
     Alike (others n es ++ out_next b.next (reached n es && hold consts vals (items_all flat q (entry_cur flat q) 0 (entry_count flat q) b.cmds)) (env_of consts vals (cur_end flat (entry_cur flat q) (entry_count flat q) b.cmds)) cs)
-        (step flat q d (given_by vals n (items_all flat q (entry_cur flat q) 0 (entry_count flat q) b.cmds) cs) es)
+    (step flat q d (given_by vals n (items_all flat q (entry_cur flat q) 0 (entry_count flat q) b.cmds) cs) es)
 block_law flat q d consts vals n b es cs at there h env =
     let cur = entry_cur flat q in
     let k = entry_count flat q in
@@ -48,11 +48,11 @@ block_law flat q d consts vals n b es cs at there h env =
     let go : Env → Option FlatBlock → Option State = λ v o. closed (pass_all flat q (cmds_of o) (alone v (taken_values vals items) (taken_results vals items) [])) in
     let P : Bool → Env → Option FlatBlock → Type 0 = λ r v o. Alike (out_next b.next (r && hold consts vals items) over cs) (passed (go v o) r o d cs) in
     let here : P true (env_of consts vals cur) (Some b) =
-        subst (λ (o : Option State). Alike (out_next b.next (hold consts vals items) over cs) (passed (closed o) true (Some b) d cs)) (sym (pass_alone flat q consts vals cur 0 k b.cmds there h))
-            (passed_on (hold consts vals items) b d over (made_calls consts vals items) cs) in
+    subst (λ (o : Option State). Alike (out_next b.next (hold consts vals items) over cs) (passed (closed o) true (Some b) d cs)) (sym (pass_alone flat q consts vals cur 0 k b.cmds there h))
+    (passed_on (hold consts vals items) b d over (made_calls consts vals items) cs) in
     let by : (r : Bool) → reached n es ≡ r → P r (entered n d es) (Some b) = λ r e. cases P (env_of consts vals cur) (entered n d es) (Some b) r here (off_passed (go (entered n d es) (Some b)) (Some b) d over cs) (λ y. env (e ∙ y)) in
     alike_append (others n es) (others n es) (out_next b.next (reached n es && hold consts vals items) over cs) (passed (go (entered n d es) (slice_get q.blocks n)) (reached n es) (slice_get q.blocks n) d cs)
-        (alike_same (others n es)) (subst (λ (o : Option FlatBlock). P (reached n es) (entered n d es) o) (sym at) (by (reached n es) refl))
+    (alike_same (others n es)) (subst (λ (o : Option FlatBlock). P (reached n es) (entered n d es) o) (sym at) (by (reached n es) refl))
   where
     cases : (P : Bool → Env → Option FlatBlock → Type 0) (v w : Env) (o : Option FlatBlock) (r : Bool) → P true v o → P false w o → (r ≡ true → v ≡ w) → P r w o
     cases P v w o true x y e = subst (λ (u : Env). P true u o) (e refl) x

@@ -86,7 +86,8 @@ last_here flat q P ok n ns s over block at passes next taken =
       plan = Is g ∷ anys ns;
       settled = ((refl, ok n block s over u [] at (sym (ap choice_count next))), anys_settled P Nowhere ns);
       off = (λ h. not_within n [] (Is g) h, anys_off (n ∷ []) ns);
-      says = by u g refl refl refl refl }
+      says = by u g refl refl refl refl;
+    }
   where
     by : (u : Used (pass_all flat q block.cmds) s over) (g : Given) → g.number ≡ n → g.values ≡ u.values → g.results ≡ u.results → g.choices ≡ [] → (d : Env) (os : List Given) → Agree Never (n ∷ ns) (Is g ∷ anys ns) os → (es : List Edge) → One es (Some n) s.env →
         One (fold flat q d os es) None over.env × Facts flat q d os es [] s over
@@ -99,15 +100,20 @@ last_here flat q P ok n ns s over block at passes next taken =
         let one2 : One es (Some o.number) s.env = subst (λ x. One es (Some x) s.env) (sym m) one in
         let at2 : slice_get q.blocks o.number ≡ Some block = ap (slice_get q.blocks) m ∙ at in
         let does : pass_all flat q block.cmds (alone s.env o.values o.results []) ≡ Some (alone over.env [] [] u.calls) =
-            ap (λ x. pass_all flat q block.cmds (alone s.env x o.results [])) w ∙ ap (λ x. pass_all flat q block.cmds (alone s.env u.values x [])) r ∙ u.does in
+        ap (λ x. pass_all flat q block.cmds (alone s.env x o.results [])) w ∙ ap (λ x. pass_all flat q block.cmds (alone s.env u.values x [])) r ∙ u.does in
         let fs = others o.number es ++ record { target = None; live = true; env = over.env } ∷ [] in
         let end = one_right (others o.number es) (record { target = None; live = true; env = over.env } ∷ []) None over.env (one_dead o.number es s.env one2) (inl (refl, refl, refl, tt)) in
         let still = end_still flat q d os fs over.env end in
         let step_to : step flat q d o es ≡ fs = step_is flat q d o es s.env block over.env u.calls one2 at2 does ∙ ap (λ x. others o.number es ++ out_next x true over.env o.choices) next in
         let rest : Facts flat q d os fs [] over over = record {
-            edges_are = still.0; calls_are = sym (append-nil over.calls) ∙ ap (λ x. over.calls ++ x) (sym still.1.0); results_are = ap (map some) taken.1 ∙ sym still.1.1; values_are = taken.0 ∙ sym still.3 } in
-        (subst (λ x. One (fold flat q d os x) None over.env) (sym step_to) (end_fold flat q d os fs over.env end),
-         facts_first flat q d o os es fs block s over over u [] [] one2 at2 w r step_to (ap (λ x. edges_next o.number x true over.env o.choices) next) rest)
+          edges_are = still.0;
+          calls_are = sym (append-nil over.calls) ∙ ap (λ x. over.calls ++ x) (sym still.1.0);
+          results_are = ap (map some) taken.1 ∙ sym still.1.1;
+          values_are = taken.0 ∙ sym still.3;
+        } in (
+          subst (λ x. One (fold flat q d os x) None over.env) (sym step_to) (end_fold flat q d os fs over.env end),
+          facts_first flat q d o os es fs block s over over u [] [] one2 at2 w r step_to (ap (λ x. edges_next o.number x true over.env o.choices) next) rest,
+        )
 
 -- one more block of the path
 next_here : (flat : Limited) (q : FlatProc) (P : Given → Type 0) → Fine flat q P → (n : ℕ) (ns : List ℕ) (s m over : State) (block : FlatBlock) (next : FlatNext) (place t : ℕ) (path places : List ℕ) →
@@ -122,7 +128,8 @@ next_here flat q P ok n ns s m over block (Goto ts) place t path places rest at 
       plan = Is g ∷ f.plan;
       settled = ((refl, ok n block s m u (picks ts place) at (length_picks ts place ∙ sym (ap choice_count next))), f.settled);
       off = (λ h. not_within n (t ∷ path) (Is g) h, longer_off n (t ∷ path) ns f.plan f.off);
-      says = by u g refl refl refl refl f }
+      says = by u g refl refl refl refl f;
+    }
   where
     by : (u : Used (pass_all flat q block.cmds) s m) (g : Given) → g.number ≡ n → g.values ≡ u.values → g.results ≡ u.results → g.choices ≡ picks ts place → (f : Planned flat q P ns t path places m over) →
         (d : Env) (os : List Given) → Agree Never (n ∷ ns) (Is g ∷ f.plan) os → (es : List Edge) → One es (Some n) s.env → One (fold flat q d os es) None over.env × Facts flat q d os es ((n, place) ∷ edges_of (t ∷ path) places) s over
@@ -135,17 +142,18 @@ next_here flat q P ok n ns s m over block (Goto ts) place t path places rest at 
         let one2 : One es (Some o.number) s.env = subst (λ x. One es (Some x) s.env) (sym k) one in
         let at2 : slice_get q.blocks o.number ≡ Some block = ap (slice_get q.blocks) k ∙ at in
         let does : pass_all flat q block.cmds (alone s.env o.values o.results []) ≡ Some (alone m.env [] [] u.calls) =
-            ap (λ x. pass_all flat q block.cmds (alone s.env x o.results [])) w ∙ ap (λ x. pass_all flat q block.cmds (alone s.env u.values x [])) r ∙ u.does in
+        ap (λ x. pass_all flat q block.cmds (alone s.env x o.results [])) w ∙ ap (λ x. pass_all flat q block.cmds (alone s.env u.values x [])) r ∙ u.does in
         let fs = others o.number es ++ fan true m.env ts (picks ts place) in
         let step_to : step flat q d o es ≡ fs = step_is flat q d o es s.env block m.env u.calls one2 at2 does ∙ ap (λ x. others o.number es ++ out_next x true m.env o.choices) next
-            ∙ ap (λ x. others o.number es ++ fan true m.env ts x) c in
+        ∙ ap (λ x. others o.number es ++ fan true m.env ts x) c in
         let zero_place : 0 + place ≡ place = omega arith in
         let out : edges_next o.number block.next true m.env o.choices ≡ (n, place) ∷ [] =
-            ap (λ x. edges_next o.number x true m.env o.choices) next ∙ ap (λ x. edges_next o.number (Goto ts) true m.env x) c ∙ pick_places m.env o.number 0 ts place t edge
-            ∙ ap {B = List (ℕ × ℕ)} (λ x. (o.number, x) ∷ []) zero_place ∙ ap {B = List (ℕ × ℕ)} (λ x. (x, place) ∷ []) k in
-        let after = f.says d os h fs (one_right (others o.number es) (fan true m.env ts (picks ts place)) (Some t) m.env (one_dead o.number es s.env one2) (pick_fan m.env ts place t edge)) in
-        (subst (λ x. One (fold flat q d os x) None over.env) (sym step_to) after.0,
-         facts_first flat q d o os es fs block s m over u ((n, place) ∷ []) (edges_of (t ∷ path) places) one2 at2 w r step_to out after.1)
+        ap (λ x. edges_next o.number x true m.env o.choices) next ∙ ap (λ x. edges_next o.number (Goto ts) true m.env x) c ∙ pick_places m.env o.number 0 ts place t edge
+        ∙ ap {B = List (ℕ × ℕ)} (λ x. (o.number, x) ∷ []) zero_place ∙ ap {B = List (ℕ × ℕ)} (λ x. (x, place) ∷ []) k in
+        let after = f.says d os h fs (one_right (others o.number es) (fan true m.env ts (picks ts place)) (Some t) m.env (one_dead o.number es s.env one2) (pick_fan m.env ts place t edge)) in (
+          subst (λ x. One (fold flat q d os x) None over.env) (sym step_to) after.0,
+          facts_first flat q d o os es fs block s m over u ((n, place) ∷ []) (edges_of (t ∷ path) places) one2 at2 w r step_to out after.1,
+        )
 
 on_path : (flat : Limited) (q : FlatProc) (P : Given → Type 0) → Fine flat q P → (n : ℕ) (ns : List ℕ) (s over : State) (o : Option FlatBlock) (place t : ℕ) (path places : List ℕ) (last : FlatBlock) (arrived : State) →
     Rest flat q P ns over → slice_get q.blocks n ≡ o → is_target (place_at o place) t ≡ true → option_and_then (walk flat q (t ∷ path) places) (pass_all flat q (cmds_of o) s) ≡ Some (Some last, arrived) →
@@ -166,8 +174,8 @@ here flat q P ok n ns (t ∷ path) [] s over rest on h = let w = h.walks in cc
 here flat q P ok n ns (t ∷ path) (place ∷ places) s over rest on h =
     let w = if_some (is_target (place_at (slice_get q.blocks n) place) t) (option_and_then (walk flat q (t ∷ path) places) (pass_all flat q (cmds_of (slice_get q.blocks n)) s)) (Some h.last, h.arrived) h.walks in
     on_path flat q P ok n ns s over (slice_get q.blocks n) place t path places h.last h.arrived rest refl w.0 w.1
-        (on.0 place t (target_is (place_at (slice_get q.blocks n) place) t w.0))
-        (λ m k. record { last = h.last; arrived = h.arrived; walks = k; passes = h.passes; returns = h.returns; taken = h.taken })
+    (on.0 place t (target_is (place_at (slice_get q.blocks n) place) t w.0))
+    (λ m k. record { last = h.last; arrived = h.arrived; walks = k; passes = h.passes; returns = h.returns; taken = h.taken })
 
 by_number : (flat : Limited) (q : FlatProc) (P : Given → Type 0) → Fine flat q P → (n : ℕ) (ns : List ℕ) (over : State) → Rest flat q P ns over → Onward q (n ∷ ns) →
     (b : ℕ) (path places : List ℕ) (s : State) (x : Bool) → nat_eq b n ≡ x → is_in b (n ∷ ns) ≡ true → Ending flat q b path places s over → Planned flat q P (n ∷ ns) b path places s over
@@ -220,7 +228,8 @@ stop_next flat q P L ok n ns s m c arrived calls block (Goto ts) place t path pl
       settled = ((refl, ok n block s m u (picks ts place) at (length_picks ts place ∙ sym (ap choice_count next))), f.settled);
       off = (λ h. not_within n (t ∷ path) (Is g) h, longer_off n (t ∷ path) ns f.plan f.off);
       place = (suc f.place.0, f.place.1, f.place.2);
-      says = by u g refl refl refl refl f }
+      says = by u g refl refl refl refl f;
+    }
   where
     by : (u : Used (pass_all flat q block.cmds) s m) (g : Given) → g.number ≡ n → g.values ≡ u.values → g.results ≡ u.results → g.choices ≡ picks ts place → (f : Stopped flat q P L c ns t path places m calls) →
         (d : Env) (os : List Given) → Agree L (n ∷ ns) (Is g ∷ f.plan) os → (es : List Edge) → One es (Some n) s.env → FailFacts flat q d os es ((n, place) ∷ edges_of (t ∷ path) places) s calls
@@ -233,16 +242,16 @@ stop_next flat q P L ok n ns s m c arrived calls block (Goto ts) place t path pl
         let one2 : One es (Some o.number) s.env = subst (λ x. One es (Some x) s.env) (sym k) one in
         let at2 : slice_get q.blocks o.number ≡ Some block = ap (slice_get q.blocks) k ∙ at in
         let does : pass_all flat q block.cmds (alone s.env o.values o.results []) ≡ Some (alone m.env [] [] u.calls) =
-            ap (λ x. pass_all flat q block.cmds (alone s.env x o.results [])) w ∙ ap (λ x. pass_all flat q block.cmds (alone s.env u.values x [])) r ∙ u.does in
+        ap (λ x. pass_all flat q block.cmds (alone s.env x o.results [])) w ∙ ap (λ x. pass_all flat q block.cmds (alone s.env u.values x [])) r ∙ u.does in
         let fs = others o.number es ++ fan true m.env ts (picks ts place) in
         let step_to : step flat q d o es ≡ fs = step_is flat q d o es s.env block m.env u.calls one2 at2 does ∙ ap (λ x. others o.number es ++ out_next x true m.env o.choices) next
-            ∙ ap (λ x. others o.number es ++ fan true m.env ts x) chosen in
+        ∙ ap (λ x. others o.number es ++ fan true m.env ts x) chosen in
         let zero_place : 0 + place ≡ place = omega arith in
         let out : edges_next o.number block.next true m.env o.choices ≡ (n, place) ∷ [] =
-            ap (λ x. edges_next o.number x true m.env o.choices) next ∙ ap (λ x. edges_next o.number (Goto ts) true m.env x) chosen ∙ pick_places m.env o.number 0 ts place t edge
-            ∙ ap {B = List (ℕ × ℕ)} (λ x. (o.number, x) ∷ []) zero_place ∙ ap {B = List (ℕ × ℕ)} (λ x. (x, place) ∷ []) k in
+        ap (λ x. edges_next o.number x true m.env o.choices) next ∙ ap (λ x. edges_next o.number (Goto ts) true m.env x) chosen ∙ pick_places m.env o.number 0 ts place t edge
+        ∙ ap {B = List (ℕ × ℕ)} (λ x. (o.number, x) ∷ []) zero_place ∙ ap {B = List (ℕ × ℕ)} (λ x. (x, place) ∷ []) k in
         fail_first flat q d o os es fs block s m calls u ((n, place) ∷ []) (edges_of (t ∷ path) places) one2 at2 w r step_to out
-            (f.says d os h fs (one_right (others o.number es) (fan true m.env ts (picks ts place)) (Some t) m.env (one_dead o.number es s.env one2) (pick_fan m.env ts place t edge)))
+        (f.says d os h fs (one_right (others o.number es) (fan true m.env ts (picks ts place)) (Some t) m.env (one_dead o.number es s.env one2) (pick_fan m.env ts place t edge)))
 
 stop_on : (flat : Limited) (q : FlatProc) (P L : Given → Type 0) → Fine flat q P → (n : ℕ) (ns : List ℕ) (s : State) (c : ℕ) (arrived : State) (calls : List Request) (o : Option FlatBlock) (place t : ℕ) (path places : List ℕ) →
     Until flat q P L ns c arrived calls → slice_get q.blocks n ≡ o → is_target (place_at o place) t ≡ true →
@@ -275,7 +284,7 @@ stop_by : (flat : Limited) (q : FlatProc) (P L : Given → Type 0) → Fine flat
 stop_by flat q P L ok n ns c arrived calls l rest on b path places s true f within h last =
     let same = number_is b n f in
     subst (λ (x : ℕ). Stopped flat q P L c (n ∷ ns) x path places s calls) same
-        (stop_here flat q P L ok n ns path places s c arrived calls l rest on (ap (λ x. walk flat q (x ∷ path) places s) same ∙ h) (last ∙ ap (λ x. last_of x path) (sym same)))
+    (stop_here flat q P L ok n ns path places s c arrived calls l rest on (ap (λ x. walk flat q (x ∷ path) places s) same ∙ h) (last ∙ ap (λ x. last_of x path) (sym same)))
 stop_by flat q P L ok n ns c arrived calls l rest on b path places s false f within h last =
     let r = rest b path places s (split_or (nat_eq b n) (is_in b ns) within f) h last in
     record { plan = Any ∷ r.plan; settled = (tt, r.settled); off = (λ k. refl, r.off); place = (suc r.place.0, r.place.1, r.place.2); says = by r }

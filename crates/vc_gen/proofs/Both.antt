@@ -56,7 +56,7 @@ by_state flat q d gs rest g before env (Some s) None false k at h y e = dead_who
 by_state flat q d gs rest g before env (Some s) (Some block) true k at h y e =
     let r = break_place flat q block.cmds (alone env g.values g.results []) y in
     let none : pass_all flat q block.cmds (alone env g.values g.results []) ≡ None =
-        ap (λ cs. pass_all flat q cs (alone env g.values g.results [])) r.splits ∙ stop_all flat q r.before r.at r.after (alone env g.values g.results []) r.over r.passes r.breaks_is in
+    ap (λ cs. pass_all flat q cs (alone env g.values g.results [])) r.splits ∙ stop_all flat q r.before r.at r.after (alone env g.values g.results []) r.over r.passes r.breaks_is in
     let w : closed None ≡ Some s = sym (ap (λ o. closed (pass_all flat q (cmds_of o) (alone env g.values g.results []))) at ∙ ap closed none) ∙ h in
     cc
 by_state flat q d gs rest g before env (Some s) (Some block) false k at h y e = by_next flat q d gs rest g before s block.next k e
@@ -67,11 +67,11 @@ here flat q d gs rest g es env one h =
     let before = others g.number es in
     let block = slice_get q.blocks g.number in
     let P : Env → Bool → Type 0 = λ v r.
-        ends (fold flat q d gs (before ++ passed (through flat q g v) r block d g.choices)) ≡ true →
-        ((r && breaks flat q (cmds_of block) (alone v g.values g.results [])) || any_breaks flat q (seen flat q d gs (before ++ passed (through flat q g v) r block d g.choices))) ≡ false in
+    ends (fold flat q d gs (before ++ passed (through flat q g v) r block d g.choices)) ≡ true →
+    ((r && breaks flat q (cmds_of block) (alone v g.values g.results [])) || any_breaks flat q (seen flat q d gs (before ++ passed (through flat q g v) r block d g.choices))) ≡ false in
     subst (λ r. P (entered g.number d es) r) (sym (one_reached g.number es env one))
-        (subst (λ v. P v true) (sym (one_entered g.number d es env one))
-            (λ e. by_state flat q d gs rest g before env (through flat q g env) block (breaks flat q (cmds_of block) (alone env g.values g.results [])) (one_dead g.number es env one) refl refl refl e)) h
+    (subst (λ v. P v true) (sym (one_entered g.number d es env one))
+    (λ e. by_state flat q d gs rest g before env (through flat q g env) block (breaks flat q (cmds_of block) (alone env g.values g.results [])) (one_dead g.number es env one) refl refl refl e)) h
 
 by_number : (flat : Limited) (q : FlatProc) (d : Env) (gs : List Given) → Rest flat q d gs → (g : Given) (es : List Edge) (b : ℕ) (env : Env) (x : Bool) → nat_eq b g.number ≡ x → One es (Some b) env →
     ends (fold flat q d (g ∷ gs) es) ≡ true → any_breaks flat q (seen flat q d (g ∷ gs) es) ≡ false

@@ -98,8 +98,14 @@ break_place flat q (c ∷ cs) s h = by (breaks_at c s) refl h (pass flat q c s) 
     by false e k (Some m) p go =
         let r = go m (sym (ap (test_some (breaks flat q cs)) p) ∙ k) in
         record {
-          before = c ∷ r.before; at = r.at; after = r.after; over = r.over; splits = ap (λ x. c ∷ x) r.splits;
-          passes = ap (option_and_then (pass_all flat q r.before)) p ∙ r.passes; breaks_is = r.breaks_is }
+          before = c ∷ r.before;
+          at = r.at;
+          after = r.after;
+          over = r.over;
+          splits = ap (λ x. c ∷ x) r.splits;
+          passes = ap (option_and_then (pass_all flat q r.before)) p ∙ r.passes;
+          breaks_is = r.breaks_is;
+        }
 
 -- what the command makes of a run, where a callee that fails fails with this
 pub record MakesFail (cmd : FlatCmd) (env : Env) : Type 0 where

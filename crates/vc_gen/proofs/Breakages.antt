@@ -61,9 +61,9 @@ breaks_is flat q consts vals cur at k (c ∷ cs) vs rs calls t h =
     let go = breaks_is flat q consts vals next (at + 1) (next_after flat k c) cs vs rs more (and_second (cmd_there flat q c) (cmds_there flat q cs) t) (defined_right consts vals xs ys h) in
     let s : State = alone env (taken_values vals xs ++ ws) (taken_results vals xs ++ ts) calls in
     let rest : broken consts vals (on_end consts vals true xs) ys ≡ test_some (breaks flat q cs) (pass flat q c s) =
-        ap (λ x. broken consts vals x ys) (on_is consts vals true xs)
-        ∙ rest_is (breaks flat q cs) (hold consts vals xs) true (env_of consts vals next) ws ts more consts vals ys go
-        ∙ ap (test_some (breaks flat q cs)) (sym (pass_is flat q consts vals cur at k c ws ts calls (and_first (cmd_there flat q c) (cmds_there flat q cs) t) (defined_left consts vals xs ys h))) in
+    ap (λ x. broken consts vals x ys) (on_is consts vals true xs)
+    ∙ rest_is (breaks flat q cs) (hold consts vals xs) true (env_of consts vals next) ws ts more consts vals ys go
+    ∙ ap (test_some (breaks flat q cs)) (sym (pass_is flat q consts vals cur at k c ws ts calls (and_first (cmd_there flat q c) (cmds_there flat q cs) t) (defined_left consts vals xs ys h))) in
     fails_append consts vals true false xs ys ∙ fails_or consts vals (on_end consts vals true xs) (fails_in consts vals true false xs) ys
     ∙ ap (λ x. x || broken consts vals (on_end consts vals true xs) ys) (breaks_one flat q consts vals cur at k c (taken_values vals xs ++ ws) ts calls)
     ∙ ap (λ x. breaks_at c s || x) rest

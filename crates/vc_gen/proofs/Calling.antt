@@ -50,7 +50,7 @@ read_of_all csorts vsorts (x ∷ args) (suc i) e h l = read_of_all csorts vsorts
 pub arg_reads : (old mid : List TermNode) (cs versions ts : List ℕ) (args : List (List ExprNode)) (i : ℕ) (e : List ExprNode) → ArgsReady old cs versions args → Later old mid → i < length args → e ≡ slice_index_or args i e → ReadsFit mid cs versions e
 arg_reads old mid cs versions ts args i e r h l is =
     reads_fit mid cs versions r.csorts r.vsorts e (are_later old mid cs r.csorts h r.consts) (are_later old mid versions r.vsorts h r.are)
-        (subst (λ (x : List ExprNode). ReadsIn r.csorts r.vsorts x) (sym is) (read_of_all r.csorts r.vsorts args i e r.reads l))
+    (subst (λ (x : List ExprNode). ReadsIn r.csorts r.vsorts x) (sym is) (read_of_all r.csorts r.vsorts args i e r.reads l))
 
 all_append : (look : (n : ℕ) → Value) (consts : List Value) (xs : List (List ExprNode)) (e : List ExprNode) → eval_all (look_at consts look) (xs ++ e ∷ []) ≡ eval_all (look_at consts look) xs ++ eval_by (look_at consts look) e ∷ []
 all_append look consts [] e = refl
@@ -63,16 +63,19 @@ args_next old mid new cs versions ts us args i t e r l is h later plain s u =
     let fit = arg_reads old mid cs versions ts args i e r h.later l is in
     let taken : take (i + 1) args ≡ take i args ++ e ∷ [] = take_at args e i l ∙ ap (λ x. take i args ++ x ∷ []) (sym is) in
     subst (λ (xs : List (List ExprNode)). ArgsSay old cs versions xs new us) (sym taken) (subst (λ (vs : List ℕ). ArgsSay old cs versions (take i args ++ e ∷ []) new vs) (sym u) (record {
-      later = all; plain = plain_then old mid new h.plain plain;
+      later = all;
+      plain = plain_then old mid new h.plain plain;
       sorts = h.sorts ++ sort_or (whole_sort e) ∷ [];
       are = are_append new ts (t ∷ []) h.sorts (sort_or (whole_sort e) ∷ []) (are_later mid new ts h.sorts later h.are) (s.sort ∙ sort_is (whole_sort e) s.there, tt);
       values_are = λ a consts vals m.
-        let there : Meant a mid cs versions consts vals = record {
-              consts_are = map_later old mid a cs r.csorts h.later r.consts ∙ m.consts_are;
-              each = λ v t k. m.each v t k ∙ sym (value_later old mid a t h.later (version_within old versions r.vsorts v t r.are k)) } in
-        map-append (at (values a new)) ts (t ∷ []) ∙ ap (λ x. x ++ value a new t ∷ []) (map_later mid new a ts h.sorts later h.are ∙ h.values_are a consts vals m)
-        ∙ ap (λ x. eval_all (look_at consts vals) (take i args) ++ x ∷ []) (expr_value mid new cs versions a consts vals e t s fit there)
-        ∙ sym (all_append vals consts (take i args) e) }))
+          let there : Meant a mid cs versions consts vals = record {
+            consts_are = map_later old mid a cs r.csorts h.later r.consts ∙ m.consts_are;
+            each = λ v t k. m.each v t k ∙ sym (value_later old mid a t h.later (version_within old versions r.vsorts v t r.are k));
+          } in
+          map-append (at (values a new)) ts (t ∷ []) ∙ ap (λ x. x ++ value a new t ∷ []) (map_later mid new a ts h.sorts later h.are ∙ h.values_are a consts vals m)
+          ∙ ap (λ x. eval_all (look_at consts vals) (take i args) ++ x ∷ []) (expr_value mid new cs versions a consts vals e t s fit there)
+          ∙ sym (all_append vals consts (take i args) e);
+    }))
   where
     version_within : (x : List TermNode) (ts : List ℕ) (ss : List Sort) (v t : ℕ) → AreOf x ts ss → slice_get ts v ≡ Some t → t < length x
     version_within x [] ss v t h k = cc
@@ -156,10 +159,11 @@ replaced_are nodes (false ∷ ms) (t ∷ ts) us (s ∷ ss) rs (h, hs) k = let z 
 row_there : (pre post : List TermNode) (k : ℕ) (ss : List Sort) → AreVariables (pre ++ (row_of k ss ++ post)) (from (length pre) ss) k ss
 row_there pre post k [] = tt
 row_there pre post k (s ∷ ss) =
-    let n : length (pre ++ Variable k s ∷ []) ≡ length pre + 1 = length-append pre (Variable k s ∷ []) in
-    (seam pre (Variable k s) (row_of (k + 1) ss ++ post),
-     subst (λ (i : ℕ). AreVariables (pre ++ (Variable k s ∷ (row_of (k + 1) ss ++ post))) (from i ss) (k + 1) ss) n
-        (subst (λ (ns : List TermNode). AreVariables ns (from (length (pre ++ Variable k s ∷ [])) ss) (k + 1) ss) (append_assoc pre (Variable k s ∷ []) (row_of (k + 1) ss ++ post)) (row_there (pre ++ Variable k s ∷ []) post (k + 1) ss)))
+    let n : length (pre ++ Variable k s ∷ []) ≡ length pre + 1 = length-append pre (Variable k s ∷ []) in (
+      seam pre (Variable k s) (row_of (k + 1) ss ++ post),
+      subst (λ (i : ℕ). AreVariables (pre ++ (Variable k s ∷ (row_of (k + 1) ss ++ post))) (from i ss) (k + 1) ss) n
+          (subst (λ (ns : List TermNode). AreVariables ns (from (length (pre ++ Variable k s ∷ [])) ss) (k + 1) ss) (append_assoc pre (Variable k s ∷ []) (row_of (k + 1) ss ++ post)) (row_there (pre ++ Variable k s ∷ []) post (k + 1) ss)),
+    )
   where
     seam : (pre : List TermNode) (n : TermNode) (post : List TermNode) → slice_get (pre ++ n ∷ post) (length pre) ≡ Some n
     seam [] n post = refl
@@ -200,7 +204,8 @@ call_fresh o m1 m2 new d e1 e2 e outs after bit ots gts f1 v1 f2 v2 f3 v3 =
       versions = v3 ∙ ap (λ x. x ++ gts) (v2 ∙ ap (λ x. x ++ ots) v1) ∙ append_assoc (d.versions ++ bit ∷ []) ots gts ∙ append_assoc d.versions (bit ∷ []) (ots ++ gts);
       bit_is = sort_later m1 new bit bool_sort l (subst (λ (ts : List ℕ). AreOf m1 ts (bool_sort ∷ [])) vs1 f1.are).0;
       outs_are = are_later m2 new ots outs f3.later (subst (λ (ts : List ℕ). AreOf m2 ts outs) vs2 f2.are);
-      after_are = subst (λ (ts : List ℕ). AreOf new ts after) vs3 f3.are }
+      after_are = subst (λ (ts : List ℕ). AreOf new ts after) vs3 f3.are;
+    }
 
 module _ (cs : List ℕ) (block : ℕ) (old : List TermNode) (d : Draft) (p f : ℕ) (args : List (List ExprNode)) (before : List ℕ) (outs : List Sort) (changes : List Bool) (after : List Sort) where
   pub step_site : (m1 m2 m3 new : List TermNode) (ats : List ℕ) (e : Draft) (bit : ℕ) (ots gts : List ℕ) (h t : ℕ) (g : Draft) (ss : List SiteTerm) (n : ℕ) → ItemReady old cs d (Site p f args before outs changes after) →
@@ -235,8 +240,8 @@ module _ (cs : List ℕ) (block : ℕ) (old : List TermNode) (d : Draft) (p f : 
       let at_row : row ≡ from (length m1) own = sym row_is ∙ fresh.more_are in
       let bit_at : bit ≡ length m1 = head_is bit (ots ++ gts) (length m1) (from (length m1 + 1) (outs ++ after)) at_row in
       let row_vars : AreVariables m2 row d.next own =
-          subst (λ (ts : List ℕ). AreVariables m2 ts d.next own) (sym at_row) (subst (λ (ns : List TermNode). AreVariables ns (from (length m1) own) d.next own) (sym fresh.nodes_are)
-              (subst (λ (ns : List TermNode). AreVariables (m1 ++ ns) (from (length m1) own) d.next own) (append-nil (row_of d.next own)) (row_there m1 [] d.next own))) in
+      subst (λ (ts : List ℕ). AreVariables m2 ts d.next own) (sym at_row) (subst (λ (ns : List TermNode). AreVariables ns (from (length m1) own) d.next own) (sym fresh.nodes_are)
+      (subst (λ (ns : List TermNode). AreVariables (m1 ++ ns) (from (length m1) own) d.next own) (append-nil (row_of d.next own)) (row_there m1 [] d.next own))) in
       let grown : take (length m1) new ≡ take (length m1) m1 = ap (take (length m1)) l14.nodes.1 ∙ take_grown m1 l14.nodes.0 (length m1) (omega arith) in
       let front : take (length m1) new ≡ m1 = grown ∙ take_all m1 (length m1) (omega arith) in
       let whole : own ≡ chosen (Site p f args before outs changes after ∷ []) = sym (append-nil own) in
@@ -247,74 +252,89 @@ module _ (cs : List ℕ) (block : ℕ) (old : List TermNode) (d : Draft) (p f : 
       let after_count : length gts ≡ length after = are_count m2 gts after call.after_are in
       let b_are = before_are old d.versions r.vsorts before st.versions r.fit.2 in
       record {
-        later = later; more = row; versions = vs;
+        later = later;
+        more = row;
+        versions = vs;
         are = subst (λ (xs : List Sort). AreOf new row xs) whole row_new;
-        cond = w.cond; fails = w.fails;
+        cond = w.cond;
+        fails = w.fails;
         next = omega (arith, g_next, e_next, count);
         below = subst (λ (k : ℕ). IsTrue (below k new)) (sym g_next) (p4.below e.next (p3.below e.next fresh.below));
         sites = site ∷ [];
-        sites_there = (record {
-          node = ap (sort_at new) e_cond ∙ cond_sort;
-          args = (say.sorts, are_later m1 new ats say.sorts l14 say.are);
-          before = (b_are.0, are_later old new (terms_of d.versions before) b_are.0 later b_are.1);
-          outs = (outs, are_later m2 new ots outs l24 call.outs_are);
-          changed = (after, are_later m2 new gts after l24 call.after_are);
-          after = replaced_are new changes (terms_of d.versions before) gts b_are.0 after (are_later old new (terms_of d.versions before) b_are.0 later b_are.1) (are_later m2 new gts after l24 call.after_are);
-          fails = w.sort;
-          failed = sort_later m2 new bit bool_sort l24 call.bit_is;
-          fails_is = λ a fit.
-            let f3 = fits_before a m3 new l4 fit in
-            let c3 : sort_at m3 e.cond ≡ Some bool_sort = ap (sort_at m3) e_cond ∙ sort_later old m3 d.cond bool_sort l13 st.cond in
-            w.here a f3 ∙ ap (λ x. x && is_on (value a m3 bit)) (sym (bit_later m3 new a e.cond l4 c3))
-            ∙ ap (λ x. is_on (value a new e.cond) && x) (sym (bit_later m3 new a bit l4 (sort_later m2 m3 bit bool_sort l3 call.bit_is)));
-          variables = (own, variables_stay m2 new row d.next own l24 row_vars);
-          args_before = subst (λ (i : ℕ). AllBefore i ats) (sym bit_at) (are_before m1 ats say.sorts say.are);
-          globals_before = subst (λ (i : ℕ). AllBefore i (terms_of d.versions before)) (sym bit_at) (are_before m1 (terms_of d.versions before) b_are.0 (are_later old m1 (terms_of d.versions before) b_are.0 say.later b_are.1));
-          others_behind = subst (λ (i : ℕ). AllBehind i (ots ++ gts)) (sym bit_at) (subst (λ (ts : List ℕ). AllBehind (length m1) ts) (sym (tail_is bit (ots ++ gts) (length m1) (from (length m1 + 1) (outs ++ after)) at_row)) (from_behind (length m1) (length m1 + 1) (outs ++ after) (omega arith)));
-          numbers = subst (λ (i : ℕ). IsTrue (below d.next (take i new))) (sym bit_at) (subst (λ (ns : List TermNode). IsTrue (below d.next ns)) (sym front) (say.plain.below d.next st.next));
-          after_is = (changes, refl) }, tt);
+        sites_there = (
+          record {
+            node = ap (sort_at new) e_cond ∙ cond_sort;
+            args = (say.sorts, are_later m1 new ats say.sorts l14 say.are);
+            before = (b_are.0, are_later old new (terms_of d.versions before) b_are.0 later b_are.1);
+            outs = (outs, are_later m2 new ots outs l24 call.outs_are);
+            changed = (after, are_later m2 new gts after l24 call.after_are);
+            after = replaced_are new changes (terms_of d.versions before) gts b_are.0 after (are_later old new (terms_of d.versions before) b_are.0 later b_are.1) (are_later m2 new gts after l24 call.after_are);
+            fails = w.sort;
+            failed = sort_later m2 new bit bool_sort l24 call.bit_is;
+            fails_is = λ a fit.
+                let f3 = fits_before a m3 new l4 fit in
+                let c3 : sort_at m3 e.cond ≡ Some bool_sort = ap (sort_at m3) e_cond ∙ sort_later old m3 d.cond bool_sort l13 st.cond in
+                w.here a f3 ∙ ap (λ x. x && is_on (value a m3 bit)) (sym (bit_later m3 new a e.cond l4 c3))
+                ∙ ap (λ x. is_on (value a new e.cond) && x) (sym (bit_later m3 new a bit l4 (sort_later m2 m3 bit bool_sort l3 call.bit_is)));
+            variables = (own, variables_stay m2 new row d.next own l24 row_vars);
+            args_before = subst (λ (i : ℕ). AllBefore i ats) (sym bit_at) (are_before m1 ats say.sorts say.are);
+            globals_before = subst (λ (i : ℕ). AllBefore i (terms_of d.versions before)) (sym bit_at) (are_before m1 (terms_of d.versions before) b_are.0 (are_later old m1 (terms_of d.versions before) b_are.0 say.later b_are.1));
+            others_behind = subst (λ (i : ℕ). AllBehind i (ots ++ gts)) (sym bit_at) (subst (λ (ts : List ℕ). AllBehind (length m1) ts) (sym (tail_is bit (ots ++ gts) (length m1) (from (length m1 + 1) (outs ++ after)) at_row)) (from_behind (length m1) (length m1 + 1) (outs ++ after) (omega arith)));
+            numbers = subst (λ (i : ℕ). IsTrue (below d.next (take i new))) (sym bit_at) (subst (λ (ns : List TermNode). IsTrue (below d.next ns)) (sym front) (say.plain.below d.next st.next));
+            after_is = (changes, refl);
+          },
+          tt,
+        );
         sites_of = (record { proc_is = refl; outs_are = are_later m2 new ots outs l24 call.outs_are; changed_are = are_later m2 new gts after l24 call.after_are; after_is = refl }, tt);
         sites_behind = is ∙ ap (λ x. x ++ site ∷ []) (g_sites ∙ e_sites);
-        numbered = ap {B = List (ℕ × ℕ)} (λ (i : ℕ). (block, i) ∷ []) same_calls; calls = omega (arith, more_calls, same_calls);
+        numbered = ap {B = List (ℕ × ℕ)} (λ (i : ℕ). (block, i) ∷ []) same_calls;
+        calls = omega (arith, more_calls, same_calls);
         variables = p4.numbers ∙ p3.numbers ∙ fresh_numbers m1 m2 d e own fresh ∙ ap (λ r. r ++ numbers_from d.next (length own)) say.plain.numbers ∙ ap (λ i. variables_in old ++ numbers_from d.next i) count;
-        asserts = []; asserts_there = tt; asserts_behind = g_asserts ∙ e_asserts ∙ sym (append-nil d.asserts);
+        asserts = [];
+        asserts_there = tt;
+        asserts_behind = g_asserts ∙ e_asserts ∙ sym (append-nil d.asserts);
         says = λ a consts vals fit m.
-          let f3 = fits_before a m3 new l4 fit in
-          let f2 = fits_before a m2 m3 l3 f3 in
-          let back = meant_back a old new cs d.versions row g.versions r.csorts r.vsorts consts vals later st.consts st.versions vs m in
-          let on = is_on (value a old d.cond) in
-          let bit_new : vals f ≡ value a new bit = m.each f bit (ap (λ xs. slice_get xs f) vs ∙ get_seam d.versions bit (ots ++ gts) f (sym spot)) in
-          let bit3 : is_on (value a m3 bit) ≡ is_on (vals f) = sym (bit_later m3 new a bit l4 (sort_later m2 m3 bit bool_sort l3 call.bit_is)) ∙ ap is_on (sym bit_new) in
-          let cond3 : is_on (value a m3 e.cond) ≡ on = ap (λ i. is_on (value a m3 i)) e_cond ∙ bit_later old m3 a d.cond l13 st.cond in
-          let fails3 : is_on (value a m3 e.fails) ≡ is_on (value a old d.fails) = ap (λ i. is_on (value a m3 i)) e_fails ∙ bit_later old m3 a d.fails l13 st.fails in
-          let h3 : is_on (value a m3 h) ≡ not (is_on (vals f)) = b.means a f2 ∙ ap not (sym (bit_later m2 m3 a bit l3 call.bit_is) ∙ bit3) in
-          let here : (is_on (value a m3 e.cond) && is_on (value a m3 bit)) ≡ (on && is_on (vals f)) = ap (λ x. x && is_on (value a m3 bit)) cond3 ∙ ap (λ x. on && x) bit3 in
-          let split : g.versions ≡ (d.versions ++ bit ∷ []) ++ (ots ++ gts) = vs ∙ sym (append_assoc d.versions (bit ∷ []) (ots ++ gts)) in
-          let split2 : g.versions ≡ ((d.versions ++ bit ∷ []) ++ ots) ++ (gts ++ []) = split ∙ sym (append_assoc (d.versions ++ bit ∷ []) ots gts) ∙ ap (λ x. ((d.versions ++ bit ∷ []) ++ ots) ++ x) (sym (append-nil gts)) in
-          let n1 : length (d.versions ++ bit ∷ []) ≡ f + 1 = omega (arith, length-append d.versions (bit ∷ []), spot) in
-          let n2 : length ((d.versions ++ bit ∷ []) ++ ots) ≡ f + 1 + length outs = omega (arith, length-append (d.versions ++ bit ∷ []) ots, n1, outs_count) in
-          let outs_are : map vals (outs_from f outs) ≡ map (at (values a new)) ots = span_values a new g.versions vals m.each (d.versions ++ bit ∷ []) ots gts outs (f + 1) split n1 outs_count in
-          let after_are : map vals (after_from f outs after) ≡ map (at (values a new)) gts = span_values a new g.versions vals m.each ((d.versions ++ bit ∷ []) ++ ots) gts [] after (f + 1 + length outs) split2 n2 after_count in
-          let read : map (at (values a new)) row ≡ reads a d.next (length own) = map_later m2 new a row own l24 row_are ∙ ap (map (at (values a m2))) (sym row_is) ∙ fresh.read a in
-          record {
-            defined = (and_two (sorted_as outs (map vals (outs_from f outs))) (sorted_as after (map vals (after_from f outs after)))
-                (ap (sorted_as outs) outs_are ∙ have_of a new ots outs fit (are_later m2 new ots outs l24 call.outs_are))
-                (ap (sorted_as after) after_are ∙ have_of a new gts after fit (are_later m2 new gts after l24 call.after_are)), tt);
-            on = w.goes a f3 ∙ ap (λ x. x && is_on (value a m3 h)) cond3 ∙ ap (λ x. on && x) h3;
-            fails = w.failed a f3 ∙ ap (λ x. x || (is_on (value a m3 e.cond) && is_on (value a m3 bit))) fails3 ∙ ap (λ x. is_on (value a old d.fails) || x) here;
-            inputs_are = append-nil (vals f ∷ (map vals (outs_from f outs) ++ map vals (after_from f outs after)))
-                ∙ ap (λ x. x ∷ (map vals (outs_from f outs) ++ map vals (after_from f outs after))) bit_new
-                ∙ ap (λ x. value a new bit ∷ (x ++ map vals (after_from f outs after))) outs_are ∙ ap (λ x. value a new bit ∷ (map (at (values a new)) ots ++ x)) after_are
-                ∙ ap (λ x. value a new bit ∷ x) (sym (map-append (at (values a new)) ots gts)) ∙ read ∙ ap (reads a d.next) count;
-            sites_are = same (is_on (value a new e.cond)) on (map (at (values a new)) ats) (eval_all (look_at consts vals) args) (map (at (values a new)) (terms_of d.versions before)) (map vals before)
-                (map (at (values a new)) ots) (map vals (outs_from f outs)) (map (at (values a new)) gts) (map vals (after_from f outs after)) (map (at (values a new)) (replaced changes (terms_of d.versions before) gts)) (is_on (value a new t)) (on && is_on (vals f))
-                (ap (λ i. is_on (value a new i)) e_cond ∙ bit_later old new a d.cond later st.cond)
-                (map_later m1 new a ats say.sorts l14 say.are ∙ say.values_are a consts vals back)
-                (map_later old new a (terms_of d.versions before) b_are.0 later b_are.1 ∙ before_values a old d.versions vals r.vsorts before st.versions back.each r.fit.2)
-                (sym outs_are) (sym after_are) (map_replaced (at (values a new)) changes (terms_of d.versions before) gts) (w.here a f3 ∙ here);
-            asserts_are = refl };
+            let f3 = fits_before a m3 new l4 fit in
+            let f2 = fits_before a m2 m3 l3 f3 in
+            let back = meant_back a old new cs d.versions row g.versions r.csorts r.vsorts consts vals later st.consts st.versions vs m in
+            let on = is_on (value a old d.cond) in
+            let bit_new : vals f ≡ value a new bit = m.each f bit (ap (λ xs. slice_get xs f) vs ∙ get_seam d.versions bit (ots ++ gts) f (sym spot)) in
+            let bit3 : is_on (value a m3 bit) ≡ is_on (vals f) = sym (bit_later m3 new a bit l4 (sort_later m2 m3 bit bool_sort l3 call.bit_is)) ∙ ap is_on (sym bit_new) in
+            let cond3 : is_on (value a m3 e.cond) ≡ on = ap (λ i. is_on (value a m3 i)) e_cond ∙ bit_later old m3 a d.cond l13 st.cond in
+            let fails3 : is_on (value a m3 e.fails) ≡ is_on (value a old d.fails) = ap (λ i. is_on (value a m3 i)) e_fails ∙ bit_later old m3 a d.fails l13 st.fails in
+            let h3 : is_on (value a m3 h) ≡ not (is_on (vals f)) = b.means a f2 ∙ ap not (sym (bit_later m2 m3 a bit l3 call.bit_is) ∙ bit3) in
+            let here : (is_on (value a m3 e.cond) && is_on (value a m3 bit)) ≡ (on && is_on (vals f)) = ap (λ x. x && is_on (value a m3 bit)) cond3 ∙ ap (λ x. on && x) bit3 in
+            let split : g.versions ≡ (d.versions ++ bit ∷ []) ++ (ots ++ gts) = vs ∙ sym (append_assoc d.versions (bit ∷ []) (ots ++ gts)) in
+            let split2 : g.versions ≡ ((d.versions ++ bit ∷ []) ++ ots) ++ (gts ++ []) = split ∙ sym (append_assoc (d.versions ++ bit ∷ []) ots gts) ∙ ap (λ x. ((d.versions ++ bit ∷ []) ++ ots) ++ x) (sym (append-nil gts)) in
+            let n1 : length (d.versions ++ bit ∷ []) ≡ f + 1 = omega (arith, length-append d.versions (bit ∷ []), spot) in
+            let n2 : length ((d.versions ++ bit ∷ []) ++ ots) ≡ f + 1 + length outs = omega (arith, length-append (d.versions ++ bit ∷ []) ots, n1, outs_count) in
+            let outs_are : map vals (outs_from f outs) ≡ map (at (values a new)) ots = span_values a new g.versions vals m.each (d.versions ++ bit ∷ []) ots gts outs (f + 1) split n1 outs_count in
+            let after_are : map vals (after_from f outs after) ≡ map (at (values a new)) gts = span_values a new g.versions vals m.each ((d.versions ++ bit ∷ []) ++ ots) gts [] after (f + 1 + length outs) split2 n2 after_count in
+            let read : map (at (values a new)) row ≡ reads a d.next (length own) = map_later m2 new a row own l24 row_are ∙ ap (map (at (values a m2))) (sym row_is) ∙ fresh.read a in
+            record {
+              defined = (
+                and_two (sorted_as outs (map vals (outs_from f outs))) (sorted_as after (map vals (after_from f outs after)))
+                    (ap (sorted_as outs) outs_are ∙ have_of a new ots outs fit (are_later m2 new ots outs l24 call.outs_are))
+                    (ap (sorted_as after) after_are ∙ have_of a new gts after fit (are_later m2 new gts after l24 call.after_are)),
+                tt,
+              );
+              on = w.goes a f3 ∙ ap (λ x. x && is_on (value a m3 h)) cond3 ∙ ap (λ x. on && x) h3;
+              fails = w.failed a f3 ∙ ap (λ x. x || (is_on (value a m3 e.cond) && is_on (value a m3 bit))) fails3 ∙ ap (λ x. is_on (value a old d.fails) || x) here;
+              inputs_are = append-nil (vals f ∷ (map vals (outs_from f outs) ++ map vals (after_from f outs after)))
+                  ∙ ap (λ x. x ∷ (map vals (outs_from f outs) ++ map vals (after_from f outs after))) bit_new
+                  ∙ ap (λ x. value a new bit ∷ (x ++ map vals (after_from f outs after))) outs_are ∙ ap (λ x. value a new bit ∷ (map (at (values a new)) ots ++ x)) after_are
+                  ∙ ap (λ x. value a new bit ∷ x) (sym (map-append (at (values a new)) ots gts)) ∙ read ∙ ap (reads a d.next) count;
+              sites_are = same (is_on (value a new e.cond)) on (map (at (values a new)) ats) (eval_all (look_at consts vals) args) (map (at (values a new)) (terms_of d.versions before)) (map vals before)
+                  (map (at (values a new)) ots) (map vals (outs_from f outs)) (map (at (values a new)) gts) (map vals (after_from f outs after)) (map (at (values a new)) (replaced changes (terms_of d.versions before) gts)) (is_on (value a new t)) (on && is_on (vals f))
+                  (ap (λ i. is_on (value a new i)) e_cond ∙ bit_later old new a d.cond later st.cond)
+                  (map_later m1 new a ats say.sorts l14 say.are ∙ say.values_are a consts vals back)
+                  (map_later old new a (terms_of d.versions before) b_are.0 later b_are.1 ∙ before_values a old d.versions vals r.vsorts before st.versions back.each r.fit.2)
+                  (sym outs_are) (sym after_are) (map_replaced (at (values a new)) changes (terms_of d.versions before) gts) (w.here a f3 ∙ here);
+              asserts_are = refl;
+            };
         fit = λ a fit k. p4.fit a (p3.fit a (fresh.fit a (say.plain.fit a fit)
-            (sym (ap (λ xs. sorted_as xs (reads a d.next (length (chosen (Site p f args before outs changes after ∷ []))))) (sym whole) ∙ ap (λ n. sorted_as own (reads a d.next n)) (sym count)) ∙ k))) }
+            (sym (ap (λ xs. sorted_as xs (reads a d.next (length (chosen (Site p f args before outs changes after ∷ []))))) (sym whole) ∙ ap (λ n. sorted_as own (reads a d.next n)) (sym count)) ∙ k)));
+      }
     where
       same : (q q' : Bool) (x x' y y' u u' v v' w : List Value) (z z' : Bool) → q ≡ q' → x ≡ x' → y ≡ y' → u ≡ u' → v ≡ v' → w ≡ replaced changes y v → z ≡ z' →
           ◌≡◌ {A = List SiteMeans} (record { proc = p; on = q; args = x; before = y; outs = u; changed = v; after = w; fails = z } ∷ []) (record { proc = p; on = q'; args = x'; before = y'; outs = u'; changed = v'; after = replaced changes y' v'; fails = z' } ∷ [])

@@ -123,8 +123,8 @@ last_here flat q d dull is P pd ok n ns es s over block one at passes returns =
     let g : Given = record { number = n; values = u.values; results = u.results; choices = [] } in
     let fs = others n es ++ record { target = None; live = true; env = over.env } ∷ [] in
     put_first flat q d P g ns es fs over.env (ok n block s over u [] at (sym (ap choice_count returns)))
-        (step_is flat q d g es s.env block over.env u.calls one at u.does ∙ ap (λ x. others n es ++ out_next x true over.env []) returns)
-        (all_dull flat q d dull is P pd ok ns fs over.env (one_right (others n es) (record { target = None; live = true; env = over.env } ∷ []) None over.env (one_dead n es s.env one) (inl (refl, refl, refl, tt))))
+    (step_is flat q d g es s.env block over.env u.calls one at u.does ∙ ap (λ x. others n es ++ out_next x true over.env []) returns)
+    (all_dull flat q d dull is P pd ok ns fs over.env (one_right (others n es) (record { target = None; live = true; env = over.env } ∷ []) None over.env (one_dead n es s.env one) (inl (refl, refl, refl, tt))))
 
 next_here : (flat : Limited) (q : FlatProc) (d : Env) (P : Given → Type 0) → Fine flat q P → (n : ℕ) (ns : List ℕ) (es : List Edge) (s m over : State) (block : FlatBlock) (next : FlatNext) (place t : ℕ) (path places : List ℕ) →
     Rest flat q d P ns over → One es (Some n) s.env → slice_get q.blocks n ≡ Some block → pass_all flat q block.cmds s ≡ Some m → block.next ≡ next → place_of next place ≡ Some t →
@@ -135,8 +135,8 @@ next_here flat q d P ok n ns es s m over block (Goto ts) place t path places res
     let g : Given = record { number = n; values = u.values; results = u.results; choices = picks ts place } in
     let fs = others n es ++ fan true m.env ts (picks ts place) in
     put_first flat q d P g ns es fs over.env (ok n block s m u (picks ts place) at (length_picks ts place ∙ sym (ap choice_count next)))
-        (step_is flat q d g es s.env block m.env u.calls one at u.does ∙ ap (λ x. others n es ++ out_next x true m.env (picks ts place)) next)
-        (rest fs t path places m (one_right (others n es) (fan true m.env ts (picks ts place)) (Some t) m.env (one_dead n es s.env one) (pick_fan m.env ts place t edge)) later more)
+    (step_is flat q d g es s.env block m.env u.calls one at u.does ∙ ap (λ x. others n es ++ out_next x true m.env (picks ts place)) next)
+    (rest fs t path places m (one_right (others n es) (fan true m.env ts (picks ts place)) (Some t) m.env (one_dead n es s.env one) (pick_fan m.env ts place t edge)) later more)
 
 pub some_pair : (a b : Option FlatBlock) (s t : State) → ◌≡◌ {A = Option (Option FlatBlock × State)} (Some (a, s)) (Some (b, t)) → ◌≡◌ {A = Option FlatBlock × State} (a, s) (b, t)
 some_pair a b s t h = cc
@@ -171,8 +171,8 @@ here flat q d dull is P pd ok n ns es (t ∷ path) [] s over rest on one h = let
 here flat q d dull is P pd ok n ns es (t ∷ path) (place ∷ places) s over rest on one h =
     let w = if_some (is_target (place_at (slice_get q.blocks n) place) t) (option_and_then (walk flat q (t ∷ path) places) (pass_all flat q (cmds_of (slice_get q.blocks n)) s)) (Some h.last, h.arrived) h.walks in
     on_path flat q d P ok n ns es s over (slice_get q.blocks n) place t path places h.last h.arrived rest one refl w.0 w.1
-        (on.0 place t (target_is (place_at (slice_get q.blocks n) place) t w.0))
-        (λ m k. record { last = h.last; arrived = h.arrived; walks = k; passes = h.passes; returns = h.returns; taken = h.taken })
+    (on.0 place t (target_is (place_at (slice_get q.blocks n) place) t w.0))
+    (λ m k. record { last = h.last; arrived = h.arrived; walks = k; passes = h.passes; returns = h.returns; taken = h.taken })
 
 by_number : (flat : Limited) (q : FlatProc) (d : Env) (dull : ℕ → Given) → ((n : ℕ) → (dull n).number ≡ n) → (P : Given → Type 0) → ((n : ℕ) → P (dull n)) → Fine flat q P → (n : ℕ) (ns : List ℕ) (over : State) → Rest flat q d P ns over → Onward q (n ∷ ns) →
     (es : List Edge) (b : ℕ) (path places : List ℕ) (s : State) (x : Bool) → nat_eq b n ≡ x → One es (Some b) s.env → is_in b (n ∷ ns) ≡ true → Ending flat q b path places s over → Found flat q d P (n ∷ ns) es over.env
@@ -182,8 +182,8 @@ by_number flat q d dull is P pd ok n ns over rest on es b path places s true f o
 by_number flat q d dull is P pd ok n ns over rest on es b path places s false f one within h =
     let off : is_target (Some b) (dull n).number ≡ false = ap (λ x. nat_eq b x) (is n) ∙ f in
     subst (λ x. Found flat q d P (x ∷ ns) es over.env) (is n)
-        (put_first flat q d P (dull n) ns es (step flat q d (dull n) es) over.env (pd n) refl
-            (rest (step flat q d (dull n) es) b path places s (end_step flat q d (dull n) es (Some b) s.env off one) (split_or (nat_eq b n) (is_in b ns) within f) h))
+    (put_first flat q d P (dull n) ns es (step flat q d (dull n) es) over.env (pd n) refl
+    (rest (step flat q d (dull n) es) b path places s (end_step flat q d (dull n) es (Some b) s.env off one) (split_or (nat_eq b n) (is_in b ns) within f) h))
 
 -- a run from the target of the live edge has values of the blocks by which it ends so
 pub complete : (flat : Limited) (q : FlatProc) (d : Env) (dull : ℕ → Given) → ((n : ℕ) → (dull n).number ≡ n) → (P : Given → Type 0) → ((n : ℕ) → P (dull n)) → Fine flat q P → (ns : List ℕ) (over : State) → Onward q ns →

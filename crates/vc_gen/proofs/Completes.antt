@@ -70,24 +70,25 @@ pub facts_first : (flat : Limited) (q : FlatProc) (d : Env) (g : Given) (gs : Li
     Facts flat q d gs fs rest m over → Facts flat q d (g ∷ gs) es (first ++ rest) s over
 facts_first flat q d g gs es fs block s m over u first rest one at vs rs is out h =
     let does : pass_all flat q block.cmds (alone s.env g.values g.results []) ≡ Some (alone m.env [] [] u.calls) =
-        ap (λ x. pass_all flat q block.cmds (alone s.env x g.results [])) vs ∙ ap (λ x. pass_all flat q block.cmds (alone s.env u.values x [])) rs ∙ u.does in
+    ap (λ x. pass_all flat q block.cmds (alone s.env x g.results [])) vs ∙ ap (λ x. pass_all flat q block.cmds (alone s.env u.values x [])) rs ∙ u.does in
     let ps = passages flat q block.cmds true (alone s.env g.values g.results []) in
     let p = all_passes flat q block.cmds (alone s.env g.values g.results []) (alone m.env [] [] u.calls) does in
     let more = all_passages flat q (seen flat q d gs fs) in
     let all : all_passages flat q (seen flat q d (g ∷ gs) es) ≡ ps ++ more =
-        ap (λ x. x ++ all_passages flat q (seen flat q d gs (step flat q d g es))) (seen_is flat q d g es s.env block one at) ∙ ap (λ x. ps ++ all_passages flat q (seen flat q d gs x)) is in
+    ap (λ x. x ++ all_passages flat q (seen flat q d gs (step flat q d g es))) (seen_is flat q d g es s.env block one at) ∙ ap (λ x. ps ++ all_passages flat q (seen flat q d gs x)) is in
     record {
       edges_are =
-        ap (λ x. x ++ live_edges flat q d gs (step flat q d g es)) (out_is flat q d g es s.env block m.env u.calls one at does ∙ out)
-        ∙ ap (λ x. first ++ live_edges flat q d gs x) is ∙ ap (λ x. first ++ x) h.edges_are;
+          ap (λ x. x ++ live_edges flat q d gs (step flat q d g es)) (out_is flat q d g es s.env block m.env u.calls one at does ∙ out)
+          ∙ ap (λ x. first ++ live_edges flat q d gs x) is ∙ ap (λ x. first ++ x) h.edges_are;
       calls_are =
-        h.calls_are ∙ ap (λ x. x ++ on_requests more) (u.calls_are ∙ ap (λ x. s.calls ++ x) p.0) ∙ append_assoc s.calls (on_requests ps) (on_requests more)
-        ∙ ap (λ x. s.calls ++ x) (sym (ap on_requests all ∙ requests_append ps more));
+          h.calls_are ∙ ap (λ x. x ++ on_requests more) (u.calls_are ∙ ap (λ x. s.calls ++ x) p.0) ∙ append_assoc s.calls (on_requests ps) (on_requests more)
+          ∙ ap (λ x. s.calls ++ x) (sym (ap on_requests all ∙ requests_append ps more));
       results_are =
-        ap (map some) u.results_are ∙ map-append some u.results m.results ∙ ap (λ x. map some x ++ map some m.results) (sym rs)
-        ∙ ap (λ x. x ++ map some m.results) (p.1 ∙ append-nil (on_results ps)) ∙ ap (λ x. on_results ps ++ x) h.results_are ∙ sym (ap on_results all ∙ results_append ps more);
+          ap (map some) u.results_are ∙ map-append some u.results m.results ∙ ap (λ x. map some x ++ map some m.results) (sym rs)
+          ∙ ap (λ x. x ++ map some m.results) (p.1 ∙ append-nil (on_results ps)) ∙ ap (λ x. on_results ps ++ x) h.results_are ∙ sym (ap on_results all ∙ results_append ps more);
       values_are =
-        u.values_are ∙ ap (λ x. x ++ m.values) (sym vs) ∙ ap (λ x. g.values ++ x) h.values_are ∙ sym (seen_on flat q d g gs es s.env one ∙ ap (λ x. g.values ++ seen_values (seen flat q d gs x)) is) }
+          u.values_are ∙ ap (λ x. x ++ m.values) (sym vs) ∙ ap (λ x. g.values ++ x) h.values_are ∙ sym (seen_on flat q d g gs es s.env one ∙ ap (λ x. g.values ++ seen_values (seen flat q d gs x)) is);
+    }
 
 -- a block that isn't passed first
 pub facts_off : (flat : Limited) (q : FlatProc) (d : Env) (g : Given) (gs : List Given) (es : List Edge) (edges : List (ℕ × ℕ)) (s over : State) → reached g.number es ≡ false → Facts flat q d gs (step flat q d g es) edges s over → Facts flat q d (g ∷ gs) es edges s over
@@ -97,11 +98,12 @@ facts_off flat q d g gs es edges s over off h =
     let more = all_passages flat q (seen flat q d gs (step flat q d g es)) in
     record {
       edges_are =
-        ap (λ r. edges_out g.number (through flat q g (entered g.number d es)) r (slice_get q.blocks g.number) g.choices ++ live_edges flat q d gs (step flat q d g es)) off
-        ∙ ap (λ r. r ++ live_edges flat q d gs (step flat q d g es)) (edges_off g.number (through flat q g (entered g.number d es)) (slice_get q.blocks g.number) g.choices) ∙ h.edges_are;
+          ap (λ r. edges_out g.number (through flat q g (entered g.number d es)) r (slice_get q.blocks g.number) g.choices ++ live_edges flat q d gs (step flat q d g es)) off
+          ∙ ap (λ r. r ++ live_edges flat q d gs (step flat q d g es)) (edges_off g.number (through flat q g (entered g.number d es)) (slice_get q.blocks g.number) g.choices) ∙ h.edges_are;
       calls_are = h.calls_are ∙ ap (λ r. s.calls ++ r) (sym (requests_append ps more ∙ ap (λ r. r ++ on_requests more) quiet.0));
       results_are = h.results_are ∙ sym (results_append ps more ∙ ap (λ r. r ++ on_results more) quiet.1);
-      values_are = h.values_are ∙ sym (seen_off flat q d g gs es off) }
+      values_are = h.values_are ∙ sym (seen_off flat q d g gs es off);
+    }
 
 -- one place is passed
 never_places : (n p : ℕ) (env : Env) (ts : List ℕ) → places_on n p (fan false env ts (never ts)) ≡ []
@@ -120,8 +122,12 @@ Rest flat q d P ns over = (es : List Edge) (b : ℕ) (path places : List ℕ) (s
 put_first : (flat : Limited) (q : FlatProc) (d : Env) (P : Given → Type 0) (g : Given) (ns : List ℕ) (es fs : List Edge) (edges edges1 : List (ℕ × ℕ)) (s m over : State) → P g → step flat q d g es ≡ fs → (f : FoundAll flat q d P ns fs edges1 m over) →
     Facts flat q d (g ∷ f.givens) es edges s over → FoundAll flat q d P (g.number ∷ ns) es edges s over
 put_first flat q d P g ns es fs edges edges1 s m over good is f h = record {
-  givens = g ∷ f.givens; numbers = ap (λ x. g.number ∷ x) f.numbers; good = (good, f.good);
-  one = subst (λ x. One (fold flat q d f.givens x) None over.env) (sym is) f.one; facts = h }
+  givens = g ∷ f.givens;
+  numbers = ap (λ x. g.number ∷ x) f.numbers;
+  good = (good, f.good);
+  one = subst (λ x. One (fold flat q d f.givens x) None over.env) (sym is) f.one;
+  facts = h;
+}
 
 last_here : (flat : Limited) (q : FlatProc) (d : Env) (dull : ℕ → Given) → ((n : ℕ) → (dull n).number ≡ n) → (P : Given → Type 0) → ((n : ℕ) → P (dull n)) → Fine flat q P → (n : ℕ) (ns : List ℕ) (es : List Edge) (s over : State) (block : FlatBlock) →
     One es (Some n) s.env → slice_get q.blocks n ≡ Some block → pass_all flat q block.cmds s ≡ Some over → block.next ≡ Return → AllTaken over → FoundAll flat q d P (n ∷ ns) es [] s over
@@ -134,11 +140,18 @@ last_here flat q d dull is P pd ok n ns es s over block one at passes next taken
     let still = end_still flat q d f.0 fs over.env end in
     let step_to : step flat q d g es ≡ fs = step_is flat q d g es s.env block over.env u.calls one at u.does ∙ ap (λ x. others n es ++ out_next x true over.env []) next in
     let rest : Facts flat q d f.0 fs [] over over = record {
-        edges_are = still.0; calls_are = sym (append-nil over.calls) ∙ ap (λ x. over.calls ++ x) (sym still.1.0); results_are = ap (map some) taken.1 ∙ sym still.1.1; values_are = taken.0 ∙ sym still.3 } in
+      edges_are = still.0;
+      calls_are = sym (append-nil over.calls) ∙ ap (λ x. over.calls ++ x) (sym still.1.0);
+      results_are = ap (map some) taken.1 ∙ sym still.1.1;
+      values_are = taken.0 ∙ sym still.3;
+    } in
     record {
-      givens = g ∷ f.0; numbers = ap (λ x. n ∷ x) f.1; good = (ok n block s over u [] at (sym (ap choice_count next)), f.2);
+      givens = g ∷ f.0;
+      numbers = ap (λ x. n ∷ x) f.1;
+      good = (ok n block s over u [] at (sym (ap choice_count next)), f.2);
       one = subst (λ x. One (fold flat q d f.0 x) None over.env) (sym step_to) f.3;
-      facts = facts_first flat q d g f.0 es fs block s over over u [] [] one at refl refl step_to (ap (λ x. edges_next n x true over.env []) next) rest }
+      facts = facts_first flat q d g f.0 es fs block s over over u [] [] one at refl refl step_to (ap (λ x. edges_next n x true over.env []) next) rest;
+    }
 
 next_here : (flat : Limited) (q : FlatProc) (d : Env) (P : Given → Type 0) → Fine flat q P → (n : ℕ) (ns : List ℕ) (es : List Edge) (s m over : State) (block : FlatBlock) (next : FlatNext) (place t : ℕ) (path places : List ℕ) →
     Rest flat q d P ns over → One es (Some n) s.env → slice_get q.blocks n ≡ Some block → pass_all flat q block.cmds s ≡ Some m → block.next ≡ next → place_of next place ≡ Some t →
@@ -152,8 +165,8 @@ next_here flat q d P ok n ns es s m over block (Goto ts) place t path places res
     let step_to : step flat q d g es ≡ fs = step_is flat q d g es s.env block m.env u.calls one at u.does ∙ ap (λ x. others n es ++ out_next x true m.env (picks ts place)) next in
     let zero_place : 0 + place ≡ place = omega arith in
     put_first flat q d P g ns es fs ((n, place) ∷ edges_of (t ∷ path) places) (edges_of (t ∷ path) places) s m over (ok n block s m u (picks ts place) at (length_picks ts place ∙ sym (ap choice_count next))) step_to f
-        (facts_first flat q d g f.givens es fs block s m over u ((n, place) ∷ []) (edges_of (t ∷ path) places) one at refl refl step_to
-            (ap (λ x. edges_next n x true m.env (picks ts place)) next ∙ pick_places m.env n 0 ts place t edge ∙ ap {B = List (ℕ × ℕ)} (λ x. (n, x) ∷ []) zero_place) f.facts)
+    (facts_first flat q d g f.givens es fs block s m over u ((n, place) ∷ []) (edges_of (t ∷ path) places) one at refl refl step_to
+    (ap (λ x. edges_next n x true m.env (picks ts place)) next ∙ pick_places m.env n 0 ts place t edge ∙ ap {B = List (ℕ × ℕ)} (λ x. (n, x) ∷ []) zero_place) f.facts)
 
 on_path : (flat : Limited) (q : FlatProc) (d : Env) (P : Given → Type 0) → Fine flat q P → (n : ℕ) (ns : List ℕ) (es : List Edge) (s over : State) (o : Option FlatBlock) (place t : ℕ) (path places : List ℕ) (last : FlatBlock) (arrived : State) →
     Rest flat q d P ns over → One es (Some n) s.env → slice_get q.blocks n ≡ o → is_target (place_at o place) t ≡ true → option_and_then (walk flat q (t ∷ path) places) (pass_all flat q (cmds_of o) s) ≡ Some (Some last, arrived) →
@@ -174,23 +187,23 @@ here flat q d dull is P pd ok n ns es (t ∷ path) [] s over rest on one h = let
 here flat q d dull is P pd ok n ns es (t ∷ path) (place ∷ places) s over rest on one h =
     let w = if_some (is_target (place_at (slice_get q.blocks n) place) t) (option_and_then (walk flat q (t ∷ path) places) (pass_all flat q (cmds_of (slice_get q.blocks n)) s)) (Some h.last, h.arrived) h.walks in
     on_path flat q d P ok n ns es s over (slice_get q.blocks n) place t path places h.last h.arrived rest one refl w.0 w.1
-        (on.0 place t (target_is (place_at (slice_get q.blocks n) place) t w.0))
-        (λ m k. record { last = h.last; arrived = h.arrived; walks = k; passes = h.passes; returns = h.returns; taken = h.taken })
+    (on.0 place t (target_is (place_at (slice_get q.blocks n) place) t w.0))
+    (λ m k. record { last = h.last; arrived = h.arrived; walks = k; passes = h.passes; returns = h.returns; taken = h.taken })
 
 by_number : (flat : Limited) (q : FlatProc) (d : Env) (dull : ℕ → Given) → ((n : ℕ) → (dull n).number ≡ n) → (P : Given → Type 0) → ((n : ℕ) → P (dull n)) → Fine flat q P → (n : ℕ) (ns : List ℕ) (over : State) → Rest flat q d P ns over → Onward q (n ∷ ns) →
     (es : List Edge) (b : ℕ) (path places : List ℕ) (s : State) (x : Bool) → nat_eq b n ≡ x → One es (Some b) s.env → is_in b (n ∷ ns) ≡ true → Ending flat q b path places s over → FoundAll flat q d P (n ∷ ns) es (edges_of (b ∷ path) places) s over
 by_number flat q d dull is P pd ok n ns over rest on es b path places s true f one within h =
     let same = number_is b n f in
     subst (λ (x : ℕ). FoundAll flat q d P (n ∷ ns) es (edges_of (x ∷ path) places) s over) same
-        (here flat q d dull is P pd ok n ns es path places s over rest on (subst (λ x. One es (Some x) s.env) (sym same) one) (subst (λ x. Ending flat q x path places s over) (sym same) h))
+    (here flat q d dull is P pd ok n ns es path places s over rest on (subst (λ x. One es (Some x) s.env) (sym same) one) (subst (λ x. Ending flat q x path places s over) (sym same) h))
 by_number flat q d dull is P pd ok n ns over rest on es b path places s false f one within h =
     let off : is_target (Some b) (dull n).number ≡ false = ap (λ x. nat_eq b x) (is n) ∙ f in
     let fs = step flat q d (dull n) es in
     let r = rest fs b path places s (end_step flat q d (dull n) es (Some b) s.env off one) (split_or (nat_eq b n) (is_in b ns) within f) h in
     let un = one_unreached (dull n).number es (Some b) s.env off one in
     subst (λ (x : ℕ). FoundAll flat q d P (x ∷ ns) es (edges_of (b ∷ path) places) s over) (is n)
-        (put_first flat q d P (dull n) ns es fs (edges_of (b ∷ path) places) (edges_of (b ∷ path) places) s s over (pd n) refl r
-            (facts_off flat q d (dull n) r.givens es (edges_of (b ∷ path) places) s over un r.facts))
+    (put_first flat q d P (dull n) ns es fs (edges_of (b ∷ path) places) (edges_of (b ∷ path) places) s s over (pd n) refl r
+    (facts_off flat q d (dull n) r.givens es (edges_of (b ∷ path) places) s over un r.facts))
 
 -- the values of `complete`, with the edges and calls of the walk
 pub completed : (flat : Limited) (q : FlatProc) (d : Env) (dull : ℕ → Given) → ((n : ℕ) → (dull n).number ≡ n) → (P : Given → Type 0) → ((n : ℕ) → P (dull n)) → Fine flat q P → (ns : List ℕ) (over : State) → Onward q ns → Rest flat q d P ns over

@@ -62,8 +62,8 @@ unreached_passed o on b d cs h = subst (λ x. Dead (passed o x b d cs)) (sym h) 
 pub dead_step : (flat : Limited) (q : FlatProc) (d : Env) (g : Given) (es : List Edge) → Dead es → Dead (step flat q d g es)
 dead_step flat q d g es h =
     dead_append (others g.number es) (passed (through flat q g (entered g.number d es)) (reached g.number es) (slice_get q.blocks g.number) d g.choices)
-        (dead_others g.number es h)
-        (unreached_passed (through flat q g (entered g.number d es)) (reached g.number es) (slice_get q.blocks g.number) d g.choices (dead_reached g.number es h))
+    (dead_others g.number es h)
+    (unreached_passed (through flat q g (entered g.number d es)) (reached g.number es) (slice_get q.blocks g.number) d g.choices (dead_reached g.number es h))
 
 pub dead_fold : (flat : Limited) (q : FlatProc) (d : Env) (gs : List Given) (es : List Edge) → Dead es → Dead (fold flat q d gs es)
 dead_fold flat q d [] es h = h
@@ -146,8 +146,8 @@ one_fan env u (w ∷ ts) (false ∷ cs) = let r = one_fan env w ts cs in (suc r.
 pub end_step : (flat : Limited) (q : FlatProc) (d : Env) (g : Given) (es : List Edge) (t : Option ℕ) (env : Env) → is_target t g.number ≡ false → One es t env → One (step flat q d g es) t env
 end_step flat q d g es t env f h =
     one_left (others g.number es) (passed (through flat q g (entered g.number d es)) (reached g.number es) (slice_get q.blocks g.number) d g.choices) t env
-        (one_pass g.number es t env f h)
-        (unreached_passed (through flat q g (entered g.number d es)) (reached g.number es) (slice_get q.blocks g.number) d g.choices (one_unreached g.number es t env f h))
+    (one_pass g.number es t env f h)
+    (unreached_passed (through flat q g (entered g.number d es)) (reached g.number es) (slice_get q.blocks g.number) d g.choices (one_unreached g.number es t env f h))
 
 pub end_fold : (flat : Limited) (q : FlatProc) (d : Env) (gs : List Given) (es : List Edge) (env : Env) → One es None env → One (fold flat q d gs es) None env
 end_fold flat q d [] es env h = h

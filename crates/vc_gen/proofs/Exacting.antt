@@ -140,12 +140,15 @@ on_one flat q consts vals cur at k (Assign pairs) vs rs calls = none_same (sites
 on_one flat q consts vals cur at k (Havoc xs) vs rs calls = none_same (sites_in consts vals true (frees flat q k xs)) (frees_sites flat q consts vals true k xs)
 on_one flat q consts vals cur at k (Assume e) vs rs calls = tt
 on_one flat q consts vals cur at k (Assert p n e) vs rs calls = tt
-on_one flat q consts vals cur at k (Call p args outs) vs rs calls =
-    (record {
-      on_is = refl;
-      call_is = λ h. ap {B = Request} (λ (x : List Value). record { proc = p; globals = map vals cur.globals; args = x }) (args_are consts vals cur args);
-      result_is = λ h. refl;
-      off = λ h. cc }, tt)
+on_one flat q consts vals cur at k (Call p args outs) vs rs calls = (
+  record {
+    on_is = refl;
+    call_is = λ h. ap {B = Request} (λ (x : List Value). record { proc = p; globals = map vals cur.globals; args = x }) (args_are consts vals cur args);
+    result_is = λ h. refl;
+    off = λ h. cc;
+  },
+  tt,
+)
 
 off_one : (flat : Limited) (q : FlatProc) (consts : List Value) (vals : ℕ → Value) (cur : Cur) (at k : ℕ) (c : FlatCmd) (s : State) → SameCalls (sites_in consts vals false (items_of flat q cur at k c)) (passage_at false c s)
 off_one flat q consts vals cur at k (Assign pairs) s = none_same (sites_in consts vals false (lets cur k pairs)) (lets_sites consts vals false cur k pairs)
@@ -161,9 +164,9 @@ off_calls flat q consts vals cur at k (c ∷ cs) s =
     let xs = items_of flat q cur at k c in
     let ys = items_all flat q (cur_after flat cur k c) (at + 1) (next_after flat k c) cs in
     subst (λ (ms : List SiteMeans). SameCalls ms (passages flat q (c ∷ cs) false s))
-        (sym (sites_append consts vals false xs ys ∙ ap (λ b. sites_in consts vals false xs ++ sites_in consts vals b ys) (on_is consts vals false xs)))
-        (same_append (sites_in consts vals false xs) (sites_in consts vals false ys) (passage_at false c s) (behind (passages flat q cs) false s (pass flat q c s)) (off_one flat q consts vals cur at k c s)
-            (by (pass flat q c s) (λ m. off_calls flat q consts vals (cur_after flat cur k c) (at + 1) (next_after flat k c) cs m)))
+    (sym (sites_append consts vals false xs ys ∙ ap (λ b. sites_in consts vals false xs ++ sites_in consts vals b ys) (on_is consts vals false xs)))
+    (same_append (sites_in consts vals false xs) (sites_in consts vals false ys) (passage_at false c s) (behind (passages flat q cs) false s (pass flat q c s)) (off_one flat q consts vals cur at k c s)
+    (by (pass flat q c s) (λ m. off_calls flat q consts vals (cur_after flat cur k c) (at + 1) (next_after flat k c) cs m)))
   where
     by : (o : Option State) → ((m : State) → SameCalls (sites_in consts vals false (items_all flat q (cur_after flat cur k c) (at + 1) (next_after flat k c) cs)) (passages flat q cs false m)) →
         SameCalls (sites_in consts vals false (items_all flat q (cur_after flat cur k c) (at + 1) (next_after flat k c) cs)) (behind (passages flat q cs) false s o)
@@ -174,7 +177,7 @@ off_calls flat q consts vals cur at k (c ∷ cs) s =
 pub on_calls : (flat : Limited) (q : FlatProc) (consts : List Value) (vals : ℕ → Value) (cur : Cur) (at k : ℕ) (cmds : List FlatCmd) (vs : List Value) (rs : List Result) (calls : List Request) → cmds_there flat q cmds ≡ true →
     Defined consts vals (items_all flat q cur at k cmds) →
     SameCalls (sites_in consts vals true (items_all flat q cur at k cmds))
-        (passages flat q cmds true (alone (env_of consts vals cur) (taken_values vals (items_all flat q cur at k cmds) ++ vs) (taken_results vals (items_all flat q cur at k cmds) ++ rs) calls))
+    (passages flat q cmds true (alone (env_of consts vals cur) (taken_values vals (items_all flat q cur at k cmds) ++ vs) (taken_results vals (items_all flat q cur at k cmds) ++ rs) calls))
 on_calls flat q consts vals cur at k [] vs rs calls t h = tt
 on_calls flat q consts vals cur at k (c ∷ cs) vs rs calls t h =
     let xs = items_of flat q cur at k c in
@@ -189,13 +192,13 @@ on_calls flat q consts vals cur at k (c ∷ cs) vs rs calls t h =
     let go = on_calls flat q consts vals next (at + 1) (next_after flat k c) cs vs rs more (and_second (cmd_there flat q c) (cmds_there flat q cs) t) (defined_right consts vals xs ys h) in
     let s : State = alone env (taken_values vals xs ++ ws) (taken_results vals xs ++ ts) calls in
     let moved : pass flat q c s ≡ outcome (hold consts vals xs) (env_of consts vals next) ws ts more =
-        pass_is flat q consts vals cur at k c ws ts calls (and_first (cmd_there flat q c) (cmds_there flat q cs) t) (defined_left consts vals xs ys h) in
+    pass_is flat q consts vals cur at k c ws ts calls (and_first (cmd_there flat q c) (cmds_there flat q cs) t) (defined_left consts vals xs ys h) in
     let second : SameCalls (sites_in consts vals (hold consts vals xs) ys) (behind (passages flat q cs) true s (pass flat q c s)) =
-        subst (λ (o : Option State). SameCalls (sites_in consts vals (hold consts vals xs) ys) (behind (passages flat q cs) true s o)) (sym moved)
-            (by (hold consts vals xs) (env_of consts vals next) ws ts more s go (off_calls flat q consts vals next (at + 1) (next_after flat k c) cs s)) in
+    subst (λ (o : Option State). SameCalls (sites_in consts vals (hold consts vals xs) ys) (behind (passages flat q cs) true s o)) (sym moved)
+    (by (hold consts vals xs) (env_of consts vals next) ws ts more s go (off_calls flat q consts vals next (at + 1) (next_after flat k c) cs s)) in
     let whole : SameCalls (sites_in consts vals true xs ++ sites_in consts vals (hold consts vals xs) ys) (passages flat q (c ∷ cs) true s) =
-        same_append (sites_in consts vals true xs) (sites_in consts vals (hold consts vals xs) ys) (passage_at true c s) (behind (passages flat q cs) true s (pass flat q c s))
-            (on_one flat q consts vals cur at k c (taken_values vals xs ++ ws) ts calls) second in
+    same_append (sites_in consts vals true xs) (sites_in consts vals (hold consts vals xs) ys) (passage_at true c s) (behind (passages flat q cs) true s (pass flat q c s))
+    (on_one flat q consts vals cur at k c (taken_values vals xs ++ ws) ts calls) second in
     subst (λ (v : List Value). SameCalls (sites_in consts vals true (xs ++ ys)) (passages flat q (c ∷ cs) true (alone env v (taken_results vals (xs ++ ys) ++ rs) calls))) (sym vs_are)
     (subst (λ (r : List Result). SameCalls (sites_in consts vals true (xs ++ ys)) (passages flat q (c ∷ cs) true (alone env (taken_values vals xs ++ ws) r calls))) (sym rs_are)
     (subst (λ (ms : List SiteMeans). SameCalls ms (passages flat q (c ∷ cs) true s)) (sym (sites_append consts vals true xs ys ∙ ap (λ b. sites_in consts vals true xs ++ sites_in consts vals b ys) (on_is consts vals true xs))) whole))

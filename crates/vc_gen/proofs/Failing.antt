@@ -103,9 +103,9 @@ place flat q consts vals cur at k (c ∷ cs) t h b =
     let xs = items_of flat q cur at k c in
     let ys = items_all flat q (cur_after flat cur k c) (at + 1) (next_after flat k c) cs in
     let parts : (broken consts vals true xs || broken consts vals (on_end consts vals true xs) ys) ≡ true =
-        sym (fails_append consts vals true false xs ys ∙ fails_or consts vals (on_end consts vals true xs) (fails_in consts vals true false xs) ys) ∙ b in
+    sym (fails_append consts vals true false xs ys ∙ fails_or consts vals (on_end consts vals true xs) (fails_in consts vals true false xs) ys) ∙ b in
     by (either_way (broken consts vals true xs) (broken consts vals (on_end consts vals true xs) ys) parts)
-        (λ later. place flat q consts vals (cur_after flat cur k c) (at + 1) (next_after flat k c) cs (and_second (cmd_there flat q c) (cmds_there flat q cs) t) (defined_right consts vals xs ys h) later)
+    (λ later. place flat q consts vals (cur_after flat cur k c) (at + 1) (next_after flat k c) cs (and_second (cmd_there flat q c) (cmds_there flat q cs) t) (defined_right consts vals xs ys h) later)
   where
     by : let xs = items_of flat q cur at k c in let ys = items_all flat q (cur_after flat cur k c) (at + 1) (next_after flat k c) cs in
         (broken consts vals true xs ≡ true) ⊎ ((broken consts vals true xs ≡ false) × (broken consts vals (on_end consts vals true xs) ys ≡ true)) →
@@ -119,11 +119,17 @@ place flat q consts vals cur at k (c ∷ cs) t h b =
         let r = go (subst (λ (x : Bool). broken consts vals x ys ≡ true) on later) in
         let zs = items_all flat q (cur_after flat cur k c) (at + 1) (next_after flat k c) r.before in
         record {
-          before = c ∷ r.before; cmd = r.cmd; after = r.after; splits = ap (λ x. c ∷ x) r.splits;
+          before = c ∷ r.before;
+          cmd = r.cmd;
+          after = r.after;
+          splits = ap (λ x. c ∷ x) r.splits;
           there = and_two (cmd_there flat q c) (cmds_there flat q r.before) (and_first (cmd_there flat q c) (cmds_there flat q cs) t) r.there;
           defined = defined_append consts vals xs zs (defined_left consts vals xs ys h) r.defined;
           held = hold_append consts vals xs zs ∙ and_two (hold consts vals xs) (hold consts vals zs) held r.held;
-          here = r.here; next = r.next; fails = r.fails }
+          here = r.here;
+          next = r.next;
+          fails = r.fails;
+        }
 
 off_holds : (b : Bool) → (true && not b) ≡ true → b ≡ false
 off_holds true h = cc
@@ -161,6 +167,8 @@ block_fails flat q consts vals first n env edges b is t h reach fails =
     let z = breaks flat q consts vals done r.here r.next r.cmd r.fails in
     let s : State = alone over_env [] [] ([] ++ made_calls consts vals items) in
     let passes : pass_all flat q r.before (alone (env_of consts vals cur) (taken_values vals items ++ []) (taken_results vals items ++ []) []) ≡ Some s =
-        pass_all_is flat q consts vals cur 0 k r.before [] [] [] r.there r.defined ∙ ap (λ x. outcome x over_env [] [] ([] ++ made_calls consts vals items)) r.held in
-    (z.proc, z.number,
-     fails_at flat q first n env (env_of consts vals cur) edges b r.before r.after r.cmd (taken_values vals items ++ []) (taken_results vals items ++ []) z.more s z.adds z.proc z.number reach is r.splits passes z.fails)
+    pass_all_is flat q consts vals cur 0 k r.before [] [] [] r.there r.defined ∙ ap (λ x. outcome x over_env [] [] ([] ++ made_calls consts vals items)) r.held in (
+      z.proc,
+      z.number,
+      fails_at flat q first n env (env_of consts vals cur) edges b r.before r.after r.cmd (taken_values vals items ++ []) (taken_results vals items ++ []) z.more s z.adds z.proc z.number reach is r.splits passes z.fails,
+    )

@@ -29,13 +29,24 @@ pub fails_at : (flat : Limited) (q : FlatProc) (b c : ℕ) (env over : Env) (edg
 fails_at flat q b c env over edges block before after place vs rs more s adds proc number m at split passes fails =
     let u = pass_all_used flat q before (alone over vs rs []) s passes in
     record {
-      path = m.path; places = m.places; values = m.values ++ u.values; results = m.results ++ (u.results ++ more); calls = adds (m.calls ++ u.calls);
+      path = m.path;
+      places = m.places;
+      values = m.values ++ u.values;
+      results = m.results ++ (u.results ++ more);
+      calls = adds (m.calls ++ u.calls);
       run = record {
-        last = block; arrived = alone over u.values (u.results ++ more) m.calls; before = before; at = place; after = after; over = alone s.env [] more (m.calls ++ u.calls);
+        last = block;
+        arrived = alone over u.values (u.results ++ more) m.calls;
+        before = before;
+        at = place;
+        after = after;
+        over = alone s.env [] more (m.calls ++ u.calls);
         walks = m.goes u.values (u.results ++ more) ∙ ap (λ x. Some (x, alone over u.values (u.results ++ more) m.calls)) at;
         splits = split;
         passes =
-          ap (pass_all flat q before) (same_state over u.values (u.values ++ []) (u.results ++ more) (u.results ++ more) m.calls (m.calls ++ []) (sym (append-nil u.values)) refl (sym (append-nil m.calls)))
-          ∙ pass_all_frame flat q before [] more m.calls (alone over u.values u.results []) (alone s.env [] [] u.calls) u.does;
+            ap (pass_all flat q before) (same_state over u.values (u.values ++ []) (u.results ++ more) (u.results ++ more) m.calls (m.calls ++ []) (sym (append-nil u.values)) refl (sym (append-nil m.calls)))
+            ∙ pass_all_frame flat q before [] more m.calls (alone over u.values u.results []) (alone s.env [] [] u.calls) u.does;
         fails = fails (m.calls ++ u.calls);
-        taken = refl } }
+        taken = refl;
+      };
+    }

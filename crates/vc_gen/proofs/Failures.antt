@@ -108,17 +108,28 @@ blow (Assign pairs) s h = cc
 blow (Havoc xs) s h = cc
 blow (Assume e) s h = cc
 blow (Assert p n e) s h = record {
-  more = []; proc = p; number = n; own = []; asks = refl; gets = refl;
-  fails = λ calls. ap (λ b. if b then None else over p n calls []) (not_true (holds s.env e) h) ∙ ap {B = Option (Result × List Request)} (λ cs. Some (Broken p n, cs)) (sym (append-nil calls)) }
+  more = [];
+  proc = p;
+  number = n;
+  own = [];
+  asks = refl;
+  gets = refl;
+  fails = λ calls. ap (λ b. if b then None else over p n calls []) (not_true (holds s.env e) h) ∙ ap {B = Option (Result × List Request)} (λ cs. Some (Broken p n, cs)) (sym (append-nil calls));
+}
 blow (Call p args outs) s h = by s.results refl h
   where
     by : (rs : List Result) → s.results ≡ rs → bad_call rs ≡ true → Blow (Call p args outs) s
     by [] e k = cc
     by (Ended os gs ∷ rs) e k = cc
     by (Broken a b ∷ rs) e k = record {
-      more = Broken a b ∷ []; proc = a; number = b; own = request s p args ∷ []; asks = refl;
+      more = Broken a b ∷ [];
+      proc = a;
+      number = b;
+      own = request s p args ∷ [];
+      asks = refl;
       gets = ap (λ r. next_result r ∷ []) e;
-      fails = λ calls. refl }
+      fails = λ calls. refl;
+    }
 
 split_same : {A : Type 0} (xs ys us vs : List A) → length xs ≡ length us → xs ++ ys ≡ us ++ vs → xs ≡ us
 split_same [] ys [] vs n h = refl
@@ -209,31 +220,50 @@ failed_here flat q b env block vs rs rest none left by at h quiet none_is one =
     let ys = passage_at true r.at r.over in
     let zs = passages flat q r.after false r.over in
     let all : passages flat q block.cmds true s ≡ xs ++ (ys ++ zs) =
-        ap (λ cs. passages flat q cs true s) r.splits ∙ passages_append flat q r.before (r.at ∷ r.after) s r.over r.passes
-        ∙ ap (λ o. xs ++ (ys ++ behind (passages flat q r.after) true r.over o)) (stop_at flat q r.at r.over r.breaks_is) in
+    ap (λ cs. passages flat q cs true s) r.splits ∙ passages_append flat q r.before (r.at ∷ r.after) s r.over r.passes
+    ∙ ap (λ o. xs ++ (ys ++ behind (passages flat q r.after) true r.over o)) (stop_at flat q r.at r.over r.breaks_is) in
     let off = quiet_cmds flat q r.after r.over in
     let calls_before : on_requests xs ≡ u.calls = sym p.0 ∙ u.calls_are in
     let results_before : on_results xs ≡ map some u.results =
-        cancel_right (on_results xs) (map some u.results) (map some r.over.results) (sym p.1 ∙ ap (map some) u.results_are ∙ map-append some u.results r.over.results) in
+    cancel_right (on_results xs) (map some u.results) (map some r.over.results) (sym p.1 ∙ ap (map some) u.results_are ∙ map-append some u.results r.over.results) in
     let own_calls : on_requests (passages flat q block.cmds true s) ≡ u.calls ++ z.own =
-        ap on_requests all ∙ requests_append xs (ys ++ zs) ∙ ap (λ x. on_requests xs ++ x) (requests_append ys zs ∙ ap (λ x. on_requests ys ++ x) off.0 ∙ append-nil (on_requests ys) ∙ z.asks)
-        ∙ ap (λ x. x ++ z.own) calls_before in
+    ap on_requests all ∙ requests_append xs (ys ++ zs) ∙ ap (λ x. on_requests xs ++ x) (requests_append ys zs ∙ ap (λ x. on_requests ys ++ x) off.0 ∙ append-nil (on_requests ys) ∙ z.asks)
+    ∙ ap (λ x. x ++ z.own) calls_before in
     record {
-      c = b; at_env = env; front = []; way = stays flat q b env; block = block; at = at; before = r.before; cmd = r.at; after = r.after; splits = r.splits;
-      values = u.values; results = u.results; made = u.calls; over = r.over; passes = u.does; more = z.more; proc = z.proc; number = z.number; own = z.own; fails = z.fails;
+      c = b;
+      at_env = env;
+      front = [];
+      way = stays flat q b env;
+      block = block;
+      at = at;
+      before = r.before;
+      cmd = r.at;
+      after = r.after;
+      splits = r.splits;
+      values = u.values;
+      results = u.results;
+      made = u.calls;
+      over = r.over;
+      passes = u.does;
+      more = z.more;
+      proc = z.proc;
+      number = z.number;
+      own = z.own;
+      fails = z.fails;
       edges_are = refl;
       calls_are = sym (
-        requests_append (passages flat q block.cmds true s) rest ∙ ap (λ x. on_requests (passages flat q block.cmds true s) ++ x) quiet.0 ∙ append-nil (on_requests (passages flat q block.cmds true s)) ∙ own_calls);
+          requests_append (passages flat q block.cmds true s) rest ∙ ap (λ x. on_requests (passages flat q block.cmds true s) ++ x) quiet.0 ∙ append-nil (on_requests (passages flat q block.cmds true s)) ∙ own_calls);
       places_are =
-        ap (λ (x : List Request). take (length x) (block_places q b ++ [])) (sym own_calls)
-        ∙ ap (take (length (on_requests (passages flat q block.cmds true s)))) (append-nil (block_places q b) ∙ ap (λ o. places_from b 0 (length (calls_at o))) at)
-        ∙ sym (prefix_on flat q b 0 block.cmds true s) ∙ sym (append-nil (places_at b 0 (passages flat q block.cmds true s))) ∙ ap (λ x. places_at b 0 (passages flat q block.cmds true s) ++ x) (sym none_is);
+          ap (λ (x : List Request). take (length x) (block_places q b ++ [])) (sym own_calls)
+          ∙ ap (take (length (on_requests (passages flat q block.cmds true s)))) (append-nil (block_places q b) ∙ ap (λ o. places_from b 0 (length (calls_at o))) at)
+          ∙ sym (prefix_on flat q b 0 block.cmds true s) ∙ sym (append-nil (places_at b 0 (passages flat q block.cmds true s))) ∙ ap (λ x. places_at b 0 (passages flat q block.cmds true s) ++ x) (sym none_is);
       takes = prefix_then u.values [] (r.over.values ++ left) u.values (sym (append-nil u.values)) refl ∙ ap (take (length u.values)) (sym (ap (λ x. x ++ left) u.values_are ∙ append_assoc u.values r.over.values left));
       along_are = one;
       results_are = sym (
-        results_append (passages flat q block.cmds true s) rest ∙ ap (λ x. on_results (passages flat q block.cmds true s) ++ x) quiet.1 ∙ append-nil (on_results (passages flat q block.cmds true s))
-        ∙ ap on_results all ∙ results_append xs (ys ++ zs) ∙ ap (λ x. on_results xs ++ x) (results_append ys zs ∙ ap (λ x. on_results ys ++ x) off.1 ∙ append-nil (on_results ys) ∙ z.gets)
-        ∙ ap (λ x. x ++ map some z.more) results_before ∙ sym (map-append some u.results z.more)) }
+          results_append (passages flat q block.cmds true s) rest ∙ ap (λ x. on_results (passages flat q block.cmds true s) ++ x) quiet.1 ∙ append-nil (on_results (passages flat q block.cmds true s))
+          ∙ ap on_results all ∙ results_append xs (ys ++ zs) ∙ ap (λ x. on_results xs ++ x) (results_append ys zs ∙ ap (λ x. on_results ys ++ x) off.1 ∙ append-nil (on_results ys) ∙ z.gets)
+          ∙ ap (λ x. x ++ map some z.more) results_before ∙ sym (map-append some u.results z.more));
+    }
 
 -- or behind an edge
 failed_goes : (flat : Limited) (q : FlatProc) (b : ℕ) (block : FlatBlock) (env : Env) (vs : List Value) (rs : List Result) (s : State) (place t : ℕ) (edges : List (ℕ × ℕ)) (rest : List Passage) (sites : List (ℕ × ℕ)) (left : List Value) (by own : List ℕ → List Value) →
@@ -245,26 +275,44 @@ failed_goes flat q b block env vs rs s place t edges rest sites left by own at e
     let p = all_passes flat q block.cmds (alone env vs rs []) s r.0 in
     let ps = passages flat q block.cmds true (alone env vs rs []) in
     record {
-      c = m.c; at_env = m.at_env; front = (b, place) ∷ m.front; way = goes_on flat q b m.c env m.at_env block vs rs s place t m.front at edge h m.way;
-      block = m.block; at = m.at; before = m.before; cmd = m.cmd; after = m.after; splits = m.splits; values = m.values; results = m.results; made = m.made; over = m.over; passes = m.passes;
-      more = m.more; proc = m.proc; number = m.number; own = m.own; fails = m.fails;
+      c = m.c;
+      at_env = m.at_env;
+      front = (b, place) ∷ m.front;
+      way = goes_on flat q b m.c env m.at_env block vs rs s place t m.front at edge h m.way;
+      block = m.block;
+      at = m.at;
+      before = m.before;
+      cmd = m.cmd;
+      after = m.after;
+      splits = m.splits;
+      values = m.values;
+      results = m.results;
+      made = m.made;
+      over = m.over;
+      passes = m.passes;
+      more = m.more;
+      proc = m.proc;
+      number = m.number;
+      own = m.own;
+      fails = m.fails;
       edges_are = ap (λ x. (b, place) ∷ x) m.edges_are;
       calls_are = append_assoc s.calls m.way.calls (m.made ++ m.own) ∙ ap (λ x. x ++ (m.way.calls ++ (m.made ++ m.own))) p.0 ∙ ap (λ x. on_requests ps ++ x) m.calls_are ∙ sym (requests_append ps rest);
       results_are =
-        ap (map some) (append_assoc rs m.way.results (m.results ++ m.more)) ∙ map-append some rs (m.way.results ++ (m.results ++ m.more))
-        ∙ ap (λ x. x ++ map some (m.way.results ++ (m.results ++ m.more))) (p.1 ∙ ap (λ x. on_results ps ++ map some x) r.2 ∙ append-nil (on_results ps))
-        ∙ ap (λ x. on_results ps ++ x) m.results_are ∙ sym (results_append ps rest);
+          ap (map some) (append_assoc rs m.way.results (m.results ++ m.more)) ∙ map-append some rs (m.way.results ++ (m.results ++ m.more))
+          ∙ ap (λ x. x ++ map some (m.way.results ++ (m.results ++ m.more))) (p.1 ∙ ap (λ x. on_results ps ++ map some x) r.2 ∙ append-nil (on_results ps))
+          ∙ ap (λ x. on_results ps ++ x) m.results_are ∙ sym (results_append ps rest);
       places_are =
-        let asks = m.way.calls ++ (m.made ++ m.own) in
-        let rest_places = path_places q (t ∷ m.way.path) in
-        let passed = passed_places flat q b block (alone env vs rs []) s at r.0 in
-        let many : length (block_places q b) ≡ length s.calls = ap length passed ∙ count_on b 0 ps ∙ sym (ap length p.0) in
-        ap (λ (x : List Request). take (length x) (block_places q b ++ rest_places)) (append_assoc s.calls m.way.calls (m.made ++ m.own))
-        ∙ ap (λ i. take i (block_places q b ++ rest_places)) (length-append s.calls asks)
-        ∙ take_both (length s.calls) (length asks) (block_places q b) rest_places many
-        ∙ ap (λ x. x ++ take (length asks) rest_places) passed ∙ ap (λ x. places_at b 0 ps ++ x) m.places_are;
+          let asks = m.way.calls ++ (m.made ++ m.own) in
+          let rest_places = path_places q (t ∷ m.way.path) in
+          let passed = passed_places flat q b block (alone env vs rs []) s at r.0 in
+          let many : length (block_places q b) ≡ length s.calls = ap length passed ∙ count_on b 0 ps ∙ sym (ap length p.0) in
+          ap (λ (x : List Request). take (length x) (block_places q b ++ rest_places)) (append_assoc s.calls m.way.calls (m.made ++ m.own))
+          ∙ ap (λ i. take i (block_places q b ++ rest_places)) (length-append s.calls asks)
+          ∙ take_both (length s.calls) (length asks) (block_places q b) rest_places many
+          ∙ ap (λ x. x ++ take (length asks) rest_places) passed ∙ ap (λ x. places_at b 0 ps ++ x) m.places_are;
       takes = prefix_then vs (m.way.values ++ m.values) left ((vs ++ m.way.values) ++ m.values) (append_assoc vs m.way.values m.values) m.takes;
-      along_are = ap (λ x. vs ++ x) m.along_are ∙ sym (step_on (t ∷ m.way.path)) }
+      along_are = ap (λ x. vs ++ x) m.along_are ∙ sym (step_on (t ∷ m.way.path));
+    }
 
 abbrev Rest : Limited → FlatProc → Env → List Given → Type 0
 Rest flat q d gs = (es : List Edge) (b : ℕ) (env : Env) → One es (Some b) env → any_breaks flat q (seen flat q d gs es) ≡ true → Failed flat q b env (live_edges flat q d gs es) (all_passages flat q (seen flat q d gs es)) (all_places flat q (seen flat q d gs es)) (seen_values (seen flat q d gs es)) (along gs)
@@ -273,9 +321,9 @@ by_next : (flat : Limited) (q : FlatProc) (d : Env) (gs : List Given) → Rest f
     Dead before → slice_get q.blocks g.number ≡ Some block → block.next ≡ next → closed (pass_all flat q block.cmds (alone env g.values g.results [])) ≡ Some s →
     any_breaks flat q (seen flat q d gs (before ++ out_next next true s.env g.choices)) ≡ true →
     Failed flat q g.number env (edges_next g.number next true s.env g.choices ++ live_edges flat q d gs (before ++ out_next next true s.env g.choices))
-        (passages flat q block.cmds true (alone env g.values g.results []) ++ all_passages flat q (seen flat q d gs (before ++ out_next next true s.env g.choices)))
-        (places_at g.number 0 (passages flat q block.cmds true (alone env g.values g.results [])) ++ all_places flat q (seen flat q d gs (before ++ out_next next true s.env g.choices)))
-        (g.values ++ seen_values (seen flat q d gs (before ++ out_next next true s.env g.choices))) (along (g ∷ gs))
+    (passages flat q block.cmds true (alone env g.values g.results []) ++ all_passages flat q (seen flat q d gs (before ++ out_next next true s.env g.choices)))
+    (places_at g.number 0 (passages flat q block.cmds true (alone env g.values g.results [])) ++ all_places flat q (seen flat q d gs (before ++ out_next next true s.env g.choices)))
+    (g.values ++ seen_values (seen flat q d gs (before ++ out_next next true s.env g.choices))) (along (g ∷ gs))
 by_next flat q d gs rest g before env s block Return k at next h e =
     let es = before ++ out_next Return true s.env g.choices in
     absurd (clash (any_breaks flat q (seen flat q d gs es)) (end_whole flat q d gs es s.env (one_right before (out_next Return true s.env g.choices) None s.env k (inl (refl, refl, refl, tt)))) e)
@@ -290,16 +338,16 @@ by_next flat q d gs rest g before env s block (Goto (u ∷ ts)) k at next h e =
     let vl = g.values ++ seen_values (seen flat q d gs es) in
     subst (λ (x : List (ℕ × ℕ)). Failed flat q g.number env (x ++ live_edges flat q d gs es) ps pl vl (along (g ∷ gs))) (sym f.only)
     (subst (λ (p : ℕ). Failed flat q g.number env ((g.number, p) ∷ live_edges flat q d gs es) ps pl vl (along (g ∷ gs))) (omega arith)
-        (failed_goes flat q g.number block env g.values g.results s f.place f.to (live_edges flat q d gs es) (all_passages flat q (seen flat q d gs es)) (all_places flat q (seen flat q d gs es)) (seen_values (seen flat q d gs es)) (along gs) (along (g ∷ gs)) at (ap (λ x. place_of x f.place) next ∙ f.at) h more (along_here g gs)))
+    (failed_goes flat q g.number block env g.values g.results s f.place f.to (live_edges flat q d gs es) (all_passages flat q (seen flat q d gs es)) (all_places flat q (seen flat q d gs es)) (seen_values (seen flat q d gs es)) (along gs) (along (g ∷ gs)) at (ap (λ x. place_of x f.place) next ∙ f.at) h more (along_here g gs)))
 
 -- the block g is reached; it fails, or passes
 by_state : (flat : Limited) (q : FlatProc) (d : Env) (gs : List Given) → Rest flat q d gs → (g : Given) (before : List Edge) (env : Env) (o : Option State) (b : Option FlatBlock) (x : Bool) →
     Dead before → slice_get q.blocks g.number ≡ b → through flat q g env ≡ o → breaks flat q (cmds_of b) (alone env g.values g.results []) ≡ x →
     (x || any_breaks flat q (seen flat q d gs (before ++ passed o true b d g.choices))) ≡ true →
     Failed flat q g.number env (edges_out g.number o true b g.choices ++ live_edges flat q d gs (before ++ passed o true b d g.choices))
-        (passages flat q (cmds_of b) true (alone env g.values g.results []) ++ all_passages flat q (seen flat q d gs (before ++ passed o true b d g.choices)))
-        (places_at g.number 0 (passages flat q (cmds_of b) true (alone env g.values g.results [])) ++ all_places flat q (seen flat q d gs (before ++ passed o true b d g.choices)))
-        (g.values ++ seen_values (seen flat q d gs (before ++ passed o true b d g.choices))) (along (g ∷ gs))
+    (passages flat q (cmds_of b) true (alone env g.values g.results []) ++ all_passages flat q (seen flat q d gs (before ++ passed o true b d g.choices)))
+    (places_at g.number 0 (passages flat q (cmds_of b) true (alone env g.values g.results [])) ++ all_places flat q (seen flat q d gs (before ++ passed o true b d g.choices)))
+    (g.values ++ seen_values (seen flat q d gs (before ++ passed o true b d g.choices))) (along (g ∷ gs))
 by_state flat q d gs rest g before env o None true k at h y e = let z : false ≡ true = y in cc
 by_state flat q d gs rest g before env None (Some block) true k at h y e =
     let es = before ++ out_of (Some block) false d g.choices in
@@ -308,12 +356,12 @@ by_state flat q d gs rest g before env None (Some block) true k at h y e =
     let pl = places_at g.number 0 (passages flat q block.cmds true (alone env g.values g.results [])) ++ all_places flat q (seen flat q d gs es) in
     let vl = g.values ++ seen_values (seen flat q d gs es) in
     subst (λ (z : List (ℕ × ℕ)). Failed flat q g.number env z ps pl vl (along (g ∷ gs))) (sym still.0)
-        (failed_here flat q g.number env block g.values g.results (all_passages flat q (seen flat q d gs es)) (all_places flat q (seen flat q d gs es)) (seen_values (seen flat q d gs es)) (along (g ∷ gs)) at y still.1 still.2
-            (ap (λ x. g.values ++ x) (still.3 ∙ sym (along_none gs)) ∙ sym (along_here g gs [])))
+    (failed_here flat q g.number env block g.values g.results (all_passages flat q (seen flat q d gs es)) (all_places flat q (seen flat q d gs es)) (seen_values (seen flat q d gs es)) (along (g ∷ gs)) at y still.1 still.2
+    (ap (λ x. g.values ++ x) (still.3 ∙ sym (along_none gs)) ∙ sym (along_here g gs [])))
 by_state flat q d gs rest g before env (Some s) (Some block) true k at h y e =
     let r = break_place flat q block.cmds (alone env g.values g.results []) y in
     let none : pass_all flat q block.cmds (alone env g.values g.results []) ≡ None =
-        ap (λ cs. pass_all flat q cs (alone env g.values g.results [])) r.splits ∙ stop_all flat q r.before r.at r.after (alone env g.values g.results []) r.over r.passes r.breaks_is in
+    ap (λ cs. pass_all flat q cs (alone env g.values g.results [])) r.splits ∙ stop_all flat q r.before r.at r.after (alone env g.values g.results []) r.over r.passes r.breaks_is in
     let w : closed None ≡ Some s = sym (ap (λ o. closed (pass_all flat q (cmds_of o) (alone env g.values g.results []))) at ∙ ap closed none) ∙ h in
     cc
 by_state flat q d gs rest g before env None b false k at h y e =
@@ -330,40 +378,60 @@ here flat q d gs rest g es env one h =
     let before = others g.number es in
     let block = slice_get q.blocks g.number in
     let P : Env → Bool → Type 0 = λ v r.
-        ((r && breaks flat q (cmds_of block) (alone v g.values g.results [])) || any_breaks flat q (seen flat q d gs (before ++ passed (through flat q g v) r block d g.choices))) ≡ true →
-        Failed flat q g.number env
-            (edges_out g.number (through flat q g v) r block g.choices ++ live_edges flat q d gs (before ++ passed (through flat q g v) r block d g.choices))
-            (passages flat q (cmds_of block) r (alone v g.values g.results []) ++ all_passages flat q (seen flat q d gs (before ++ passed (through flat q g v) r block d g.choices)))
-            (places_at g.number 0 (passages flat q (cmds_of block) r (alone v g.values g.results [])) ++ all_places flat q (seen flat q d gs (before ++ passed (through flat q g v) r block d g.choices)))
-            (if r then g.values ++ seen_values (seen flat q d gs (before ++ passed (through flat q g v) r block d g.choices)) else seen_values (seen flat q d gs (before ++ passed (through flat q g v) r block d g.choices))) (along (g ∷ gs)) in
+    ((r && breaks flat q (cmds_of block) (alone v g.values g.results [])) || any_breaks flat q (seen flat q d gs (before ++ passed (through flat q g v) r block d g.choices))) ≡ true →
+    Failed flat q g.number env
+    (edges_out g.number (through flat q g v) r block g.choices ++ live_edges flat q d gs (before ++ passed (through flat q g v) r block d g.choices))
+    (passages flat q (cmds_of block) r (alone v g.values g.results []) ++ all_passages flat q (seen flat q d gs (before ++ passed (through flat q g v) r block d g.choices)))
+    (places_at g.number 0 (passages flat q (cmds_of block) r (alone v g.values g.results [])) ++ all_places flat q (seen flat q d gs (before ++ passed (through flat q g v) r block d g.choices)))
+    (if r then g.values ++ seen_values (seen flat q d gs (before ++ passed (through flat q g v) r block d g.choices)) else seen_values (seen flat q d gs (before ++ passed (through flat q g v) r block d g.choices))) (along (g ∷ gs)) in
     subst (λ r. P (entered g.number d es) r) (sym (one_reached g.number es env one))
-        (subst (λ v. P v true) (sym (one_entered g.number d es env one))
-            (λ e. by_state flat q d gs rest g before env (through flat q g env) block (breaks flat q (cmds_of block) (alone env g.values g.results [])) (one_dead g.number es env one) refl refl refl e)) h
+    (subst (λ v. P v true) (sym (one_entered g.number d es env one))
+    (λ e. by_state flat q d gs rest g before env (through flat q g env) block (breaks flat q (cmds_of block) (alone env g.values g.results [])) (one_dead g.number es env one) refl refl refl e)) h
 
 by_number : (flat : Limited) (q : FlatProc) (d : Env) (gs : List Given) → Rest flat q d gs → (g : Given) (es : List Edge) (b : ℕ) (env : Env) (x : Bool) → nat_eq b g.number ≡ x → One es (Some b) env →
     any_breaks flat q (seen flat q d (g ∷ gs) es) ≡ true → Failed flat q b env (live_edges flat q d (g ∷ gs) es) (all_passages flat q (seen flat q d (g ∷ gs) es)) (all_places flat q (seen flat q d (g ∷ gs) es)) (seen_values (seen flat q d (g ∷ gs) es)) (along (g ∷ gs))
 by_number flat q d gs rest g es b env true f one h =
     let same = number_is b g.number f in
     subst (λ x. Failed flat q x env (live_edges flat q d (g ∷ gs) es) (all_passages flat q (seen flat q d (g ∷ gs) es)) (all_places flat q (seen flat q d (g ∷ gs) es)) (seen_values (seen flat q d (g ∷ gs) es)) (along (g ∷ gs))) same
-        (here flat q d gs rest g es env (subst (λ x. One es (Some x) env) (sym same) one) h)
+    (here flat q d gs rest g es env (subst (λ x. One es (Some x) env) (sym same) one) h)
 by_number flat q d gs rest g es b env false f one h =
     let fs = step flat q d g es in
     let off = one_unreached g.number es (Some b) env f one in
     let m = rest fs b env (end_step flat q d g es (Some b) env f one) (sym (off_breaks flat q d g gs es off) ∙ h) in
     let first = edges_out g.number (through flat q g (entered g.number d es)) (reached g.number es) (slice_get q.blocks g.number) g.choices in
     let none : first ≡ [] =
-        ap (λ r. edges_out g.number (through flat q g (entered g.number d es)) r (slice_get q.blocks g.number) g.choices) off ∙ edges_off g.number (through flat q g (entered g.number d es)) (slice_get q.blocks g.number) g.choices in
+    ap (λ r. edges_out g.number (through flat q g (entered g.number d es)) r (slice_get q.blocks g.number) g.choices) off ∙ edges_off g.number (through flat q g (entered g.number d es)) (slice_get q.blocks g.number) g.choices in
     let quiet = quiet_seen flat q d g es off in
     let ps = passages_seen flat q (seen_at d g es) in
     let more = all_passages flat q (seen flat q d gs fs) in
     record {
-      c = m.c; at_env = m.at_env; front = m.front; way = m.way; block = m.block; at = m.at; before = m.before; cmd = m.cmd; after = m.after; splits = m.splits; values = m.values; results = m.results; made = m.made; over = m.over;
-      passes = m.passes; more = m.more; proc = m.proc; number = m.number; own = m.own; fails = m.fails;
+      c = m.c;
+      at_env = m.at_env;
+      front = m.front;
+      way = m.way;
+      block = m.block;
+      at = m.at;
+      before = m.before;
+      cmd = m.cmd;
+      after = m.after;
+      splits = m.splits;
+      values = m.values;
+      results = m.results;
+      made = m.made;
+      over = m.over;
+      passes = m.passes;
+      more = m.more;
+      proc = m.proc;
+      number = m.number;
+      own = m.own;
+      fails = m.fails;
       edges_are = m.edges_are ∙ ap (λ r. r ++ live_edges flat q d gs fs) (sym none);
       calls_are = m.calls_are ∙ ap (λ r. r ++ on_requests more) (sym quiet.0) ∙ sym (requests_append ps more);
       results_are = m.results_are ∙ ap (λ r. r ++ on_results more) (sym quiet.1) ∙ sym (results_append ps more);
       places_are = m.places_are ∙ ap (λ r. r ++ all_places flat q (seen flat q d gs fs)) (sym (quiet_places flat q d g es off));
-      takes = m.takes ∙ ap (take (length (m.way.values ++ m.values))) (sym (seen_off flat q d g gs es off)); along_are = seen_off flat q d g gs es off ∙ m.along_are ∙ sym (along_past g gs b m.way.path f) }
+      takes = m.takes ∙ ap (take (length (m.way.values ++ m.values))) (sym (seen_off flat q d g gs es off));
+      along_are = seen_off flat q d g gs es off ∙ m.along_are ∙ sym (along_past g gs b m.way.path f);
+    }
 
 pub failed : (flat : Limited) (q : FlatProc) (d : Env) (gs : List Given) → Rest flat q d gs
 failed flat q d [] es b env one h = cc
@@ -371,15 +439,21 @@ failed flat q d (g ∷ gs) es b env one h = by_number flat q d gs (failed flat q
 
 pub failed_run : (flat : Limited) (q : FlatProc) (b : ℕ) (env : Env) (edges : List (ℕ × ℕ)) (ps : List Passage) (sites : List (ℕ × ℕ)) (vals : List Value) (by : List ℕ → List Value) → (m : Failed flat q b env edges ps sites vals by) →
     LocalFails flat q (record { proc = 0; path = b ∷ m.way.path; places = m.way.places; values = m.way.values ++ m.values }) (alone env (m.way.values ++ m.values) [] []) (m.way.results ++ (m.results ++ m.more))
-        (m.way.calls ++ (m.made ++ m.own)) m.proc m.number
+    (m.way.calls ++ (m.made ++ m.own)) m.proc m.number
 failed_run flat q b env edges ps sites vals by m =
     let w = m.way in
     record {
-      last = m.block; arrived = alone m.at_env m.values (m.results ++ m.more) w.calls; before = m.before; at = m.cmd; after = m.after; over = alone m.over.env [] m.more (w.calls ++ m.made);
+      last = m.block;
+      arrived = alone m.at_env m.values (m.results ++ m.more) w.calls;
+      before = m.before;
+      at = m.cmd;
+      after = m.after;
+      over = alone m.over.env [] m.more (w.calls ++ m.made);
       walks = w.goes m.values (m.results ++ m.more) ∙ ap (λ x. Some (x, alone m.at_env m.values (m.results ++ m.more) w.calls)) m.at;
       splits = m.splits;
       passes =
-        ap (pass_all flat q m.before) (same_state m.at_env m.values (m.values ++ []) (m.results ++ m.more) (m.results ++ m.more) w.calls (w.calls ++ []) (sym (append-nil m.values)) refl (sym (append-nil w.calls)))
-        ∙ pass_all_frame flat q m.before [] m.more w.calls (alone m.at_env m.values m.results []) (alone m.over.env [] [] m.made) m.passes;
+          ap (pass_all flat q m.before) (same_state m.at_env m.values (m.values ++ []) (m.results ++ m.more) (m.results ++ m.more) w.calls (w.calls ++ []) (sym (append-nil m.values)) refl (sym (append-nil w.calls)))
+          ∙ pass_all_frame flat q m.before [] m.more w.calls (alone m.at_env m.values m.results []) (alone m.over.env [] [] m.made) m.passes;
       fails = m.fails (w.calls ++ m.made) ∙ ap {B = Option (Result × List Request)} (λ cs. Some (Broken m.proc m.number, cs)) (append_assoc w.calls m.made m.own);
-      taken = refl }
+      taken = refl;
+    }

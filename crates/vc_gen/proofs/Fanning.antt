@@ -34,7 +34,7 @@ same_edge t b b' c g g' l l' p q r = cc
 pub edge_later : (x y : List TermNode) (a : ℕ → Value) (consts : List Value) (w : Wait) → Later x y → WaitThere x w → edge_at a y consts w ≡ edge_at a x consts w
 edge_later x y a consts w h t =
     same_edge w.target (is_on (value a y w.live)) (is_on (value a x w.live)) consts (all_at a y w.globals) (all_at a x w.globals) (all_at a y w.locals) (all_at a x w.locals)
-        (bit_later x y a w.live h t.live) (map_later x y a w.globals t.globals.0 h t.globals.1) (map_later x y a w.locals t.locals.0 h t.locals.1)
+    (bit_later x y a w.live h t.live) (map_later x y a w.globals t.globals.0 h t.globals.1) (map_later x y a w.locals t.locals.0 h t.locals.1)
 
 pub edges_later : (x y : List TermNode) (a : ℕ → Value) (consts : List Value) (ws : List Wait) → Later x y → WaitsThere x ws → edges_at a y consts ws ≡ edges_at a x consts ws
 edges_later x y a consts [] h t = refl
@@ -65,9 +65,19 @@ pub fan_start : (old : List TermNode) (d : Draft) (targets globals locals : List
 fan_start old d targets globals locals before h c b =
     let z : length targets - 1 - 0 ≡ length targets - 1 = omega arith in
     record {
-      later = later_same old h; frame = refl; next = omega arith; below = b; numbers = sym (append-nil (variables_in old)); left_sort = c; more = []; waits_are = sym (append-nil before); there = tt; of = λ gs ls g l. tt;
+      later = later_same old h;
+      frame = refl;
+      next = omega arith;
+      below = b;
+      numbers = sym (append-nil (variables_in old));
+      left_sort = c;
+      more = [];
+      waits_are = sym (append-nil before);
+      there = tt;
+      of = λ gs ls g l. tt;
       says = λ a consts f. ap (λ n. fan (is_on (value a old d.cond)) (env_at a old consts globals locals) targets (picked a d.next n)) z;
-      fit = λ a f k. f }
+      fit = λ a f k. f;
+    }
 
 -- one target more, which isn't the last
 two_more : (xs : List ℕ) (i : ℕ) → i < length xs - 1 → (t u : ℕ) × (rest : List ℕ) × (drop i xs ≡ t ∷ u ∷ rest) × (slice_index xs i ≡ t) × (drop (suc i) xs ≡ u ∷ rest)
@@ -112,33 +122,34 @@ fan_next old mid new d m e targets globals locals before i left live rest waits 
       of = λ gs ls g k. of_append new gs ls h.more (w ∷ []) (all_later mid new gs ls h.more p.later (h.of gs ls g k))
           (record { live = p.live_sort; globals = are_later old new globals gs all g; locals = are_later old new locals ls all k }, tt);
       says = λ a consts f.
-        let f1 = fits_before a mid new p.later f in
-        let env = env_at a old consts globals locals in
-        let on = is_on (value a mid left) in
-        let c = is_on (a m.next) in
-        let cs = picked a e.next (length targets - 1 - (i + 1)) in
-        let edge_is : edge_at a new consts w ≡ record { target = Some t; live = on && c; env = env } =
-            ap {B = Edge} (λ (x : ℕ). record { target = Some x; live = is_on (value a new live); env = env_at a new consts globals locals }) two.4
-            ∙ same_edge (Some t) (is_on (value a new live)) (on && c) consts (all_at a new globals) (all_at a old globals) (all_at a new locals) (all_at a old locals) (p.live_is a f)
-                (map_later old new a globals gt.0 all gt.1) (map_later old new a locals lt.0 all lt.1) in
-        let choices : picked a m.next (length targets - 1 - i) ≡ c ∷ cs = ap (picked a m.next) count ∙ ap (λ n. c ∷ picked a n (length targets - 1 - (i + 1))) (sym p.next) in
-        let rest_is : fan on env (drop i targets) (picked a m.next (length targets - 1 - i)) ≡ record { target = Some t; live = on && c; env = env } ∷ fan (on && not c) env (u ∷ ts) cs =
-            ap (λ x. fan on env x (picked a m.next (length targets - 1 - i))) two.3 ∙ ap (fan on env (t ∷ u ∷ ts)) choices in
-        ap (λ x. x ++ fan (is_on (value a new rest)) env (drop (i + 1) targets) cs) (map-append (edge_at a new consts) h.more (w ∷ []))
-        ∙ append_assoc (edges_at a new consts h.more) (edge_at a new consts w ∷ []) (fan (is_on (value a new rest)) env (drop (i + 1) targets) cs)
-        ∙ ap (λ x. x ++ (edge_at a new consts w ∷ fan (is_on (value a new rest)) env (drop (i + 1) targets) cs)) (edges_later mid new a consts h.more p.later h.there)
-        ∙ ap (λ x. edges_at a mid consts h.more ++ (x ∷ fan (is_on (value a new rest)) env (drop (i + 1) targets) cs)) edge_is
-        ∙ ap (λ x. edges_at a mid consts h.more ++ (record { target = Some t; live = on && c; env = env } ∷ fan x env (drop (i + 1) targets) cs)) (p.rest_is a f)
-        ∙ ap (λ x. edges_at a mid consts h.more ++ (record { target = Some t; live = on && c; env = env } ∷ fan (on && not c) env x cs)) dropped
-        ∙ ap (λ x. edges_at a mid consts h.more ++ x) (sym rest_is)
-        ∙ h.says a consts f1;
+          let f1 = fits_before a mid new p.later f in
+          let env = env_at a old consts globals locals in
+          let on = is_on (value a mid left) in
+          let c = is_on (a m.next) in
+          let cs = picked a e.next (length targets - 1 - (i + 1)) in
+          let edge_is : edge_at a new consts w ≡ record { target = Some t; live = on && c; env = env } =
+          ap {B = Edge} (λ (x : ℕ). record { target = Some x; live = is_on (value a new live); env = env_at a new consts globals locals }) two.4
+          ∙ same_edge (Some t) (is_on (value a new live)) (on && c) consts (all_at a new globals) (all_at a old globals) (all_at a new locals) (all_at a old locals) (p.live_is a f)
+          (map_later old new a globals gt.0 all gt.1) (map_later old new a locals lt.0 all lt.1) in
+          let choices : picked a m.next (length targets - 1 - i) ≡ c ∷ cs = ap (picked a m.next) count ∙ ap (λ n. c ∷ picked a n (length targets - 1 - (i + 1))) (sym p.next) in
+          let rest_is : fan on env (drop i targets) (picked a m.next (length targets - 1 - i)) ≡ record { target = Some t; live = on && c; env = env } ∷ fan (on && not c) env (u ∷ ts) cs =
+          ap (λ x. fan on env x (picked a m.next (length targets - 1 - i))) two.3 ∙ ap (fan on env (t ∷ u ∷ ts)) choices in
+          ap (λ x. x ++ fan (is_on (value a new rest)) env (drop (i + 1) targets) cs) (map-append (edge_at a new consts) h.more (w ∷ []))
+          ∙ append_assoc (edges_at a new consts h.more) (edge_at a new consts w ∷ []) (fan (is_on (value a new rest)) env (drop (i + 1) targets) cs)
+          ∙ ap (λ x. x ++ (edge_at a new consts w ∷ fan (is_on (value a new rest)) env (drop (i + 1) targets) cs)) (edges_later mid new a consts h.more p.later h.there)
+          ∙ ap (λ x. edges_at a mid consts h.more ++ (x ∷ fan (is_on (value a new rest)) env (drop (i + 1) targets) cs)) edge_is
+          ∙ ap (λ x. edges_at a mid consts h.more ++ (record { target = Some t; live = on && c; env = env } ∷ fan x env (drop (i + 1) targets) cs)) (p.rest_is a f)
+          ∙ ap (λ x. edges_at a mid consts h.more ++ (record { target = Some t; live = on && c; env = env } ∷ fan (on && not c) env x cs)) dropped
+          ∙ ap (λ x. edges_at a mid consts h.more ++ x) (sym rest_is)
+          ∙ h.says a consts f1;
       fit = λ a f k.
-        let n : i + 1 ≡ suc i = omega arith in
-        let split : reads a d.next (i + 1) ≡ reads a d.next i ++ a m.next ∷ [] = reads_append a d.next i 1 ∙ ap (λ x. reads a d.next i ++ a x ∷ []) (sym h.next) in
-        let k2 : sorted_as (replicate i bool_sort ++ bool_sort ∷ []) (reads a d.next i ++ a m.next ∷ []) ≡ true =
-            ap (λ x. sorted_as x (reads a d.next i ++ a m.next ∷ [])) (replicate_push i ∙ ap (λ x. replicate x bool_sort) (sym n)) ∙ ap (sorted_as (replicate (i + 1) bool_sort)) (sym split) ∙ k in
-        let len : length (reads a d.next i) ≡ length (replicate i bool_sort) = length_reads a d.next i ∙ sym (length_replicate i) in
-        p.fit a (h.fit a f (sorts_left (replicate i bool_sort) (bool_sort ∷ []) (reads a d.next i) (a m.next ∷ []) len k2)) (sorts_right (replicate i bool_sort) (bool_sort ∷ []) (reads a d.next i) (a m.next ∷ []) len k2) }
+          let n : i + 1 ≡ suc i = omega arith in
+          let split : reads a d.next (i + 1) ≡ reads a d.next i ++ a m.next ∷ [] = reads_append a d.next i 1 ∙ ap (λ x. reads a d.next i ++ a x ∷ []) (sym h.next) in
+          let k2 : sorted_as (replicate i bool_sort ++ bool_sort ∷ []) (reads a d.next i ++ a m.next ∷ []) ≡ true =
+          ap (λ x. sorted_as x (reads a d.next i ++ a m.next ∷ [])) (replicate_push i ∙ ap (λ x. replicate x bool_sort) (sym n)) ∙ ap (sorted_as (replicate (i + 1) bool_sort)) (sym split) ∙ k in
+          let len : length (reads a d.next i) ≡ length (replicate i bool_sort) = length_reads a d.next i ∙ sym (length_replicate i) in
+          p.fit a (h.fit a f (sorts_left (replicate i bool_sort) (bool_sort ∷ []) (reads a d.next i) (a m.next ∷ []) len k2)) (sorts_right (replicate i bool_sort) (bool_sort ∷ []) (reads a d.next i) (a m.next ∷ []) len k2);
+    }
 
 -- the last target
 one_more : (xs : List ℕ) (i : ℕ) → 0 < length xs → i ≡ length xs - 1 → (t : ℕ) × (drop i xs ≡ t ∷ []) × (slice_index xs i ≡ t)
@@ -168,17 +179,18 @@ fan_end old new d e targets globals locals before i j left waits waits' gt lt so
       more = h.more ++ w ∷ [];
       waits_are = push ∙ ap (λ x. x ++ w ∷ []) h.waits_are ∙ append_assoc before h.more (w ∷ []);
       there = waits_append new h.more (w ∷ []) h.there
-        (record { live = h.left_sort; globals = (gt.0, are_later old new globals gt.0 h.later gt.1); locals = (lt.0, are_later old new locals lt.0 h.later lt.1) }, tt);
+          (record { live = h.left_sort; globals = (gt.0, are_later old new globals gt.0 h.later gt.1); locals = (lt.0, are_later old new locals lt.0 h.later lt.1) }, tt);
       of = λ gs ls g k. of_append new gs ls h.more (w ∷ []) (h.of gs ls g k)
           (record { live = h.left_sort; globals = are_later old new globals gs h.later g; locals = are_later old new locals ls h.later k }, tt);
       says = λ a consts f.
-        let env = env_at a old consts globals locals in
-        let on = is_on (value a new left) in
-        let edge_is : edge_at a new consts w ≡ record { target = Some t; live = on; env = env } =
-            ap {B = Edge} (λ (x : ℕ). record { target = Some x; live = on; env = env_at a new consts globals locals }) index
-            ∙ same_edge (Some t) on on consts (all_at a new globals) (all_at a old globals) (all_at a new locals) (all_at a old locals) refl
-                (map_later old new a globals gt.0 h.later gt.1) (map_later old new a locals lt.0 h.later lt.1) in
-        let rest_is : fan on env (drop i targets) (picked a e.next (length targets - 1 - i)) ≡ record { target = Some t; live = on; env = env } ∷ [] =
-            ap (λ x. fan on env x (picked a e.next (length targets - 1 - i))) one.1 in
-        map-append (edge_at a new consts) h.more (w ∷ []) ∙ ap (λ x. edges_at a new consts h.more ++ x ∷ []) edge_is ∙ ap (λ x. edges_at a new consts h.more ++ x) (sym rest_is) ∙ h.says a consts f;
-      fit = λ a f k. h.fit a f (ap (λ n. sorted_as (replicate n bool_sort) (reads a d.next n)) i_last ∙ k) }
+          let env = env_at a old consts globals locals in
+          let on = is_on (value a new left) in
+          let edge_is : edge_at a new consts w ≡ record { target = Some t; live = on; env = env } =
+          ap {B = Edge} (λ (x : ℕ). record { target = Some x; live = on; env = env_at a new consts globals locals }) index
+          ∙ same_edge (Some t) on on consts (all_at a new globals) (all_at a old globals) (all_at a new locals) (all_at a old locals) refl
+          (map_later old new a globals gt.0 h.later gt.1) (map_later old new a locals lt.0 h.later lt.1) in
+          let rest_is : fan on env (drop i targets) (picked a e.next (length targets - 1 - i)) ≡ record { target = Some t; live = on; env = env } ∷ [] =
+          ap (λ x. fan on env x (picked a e.next (length targets - 1 - i))) one.1 in
+          map-append (edge_at a new consts) h.more (w ∷ []) ∙ ap (λ x. edges_at a new consts h.more ++ x ∷ []) edge_is ∙ ap (λ x. edges_at a new consts h.more ++ x) (sym rest_is) ∙ h.says a consts f;
+      fit = λ a f k. h.fit a f (ap (λ n. sorted_as (replicate n bool_sort) (reads a d.next n)) i_last ∙ k);
+    }

@@ -57,9 +57,10 @@ sorts_more vsorts more (v ∷ vs) (s ∷ ss) (h, hs) = (get_front vsorts more v 
 
 pub sorts_from : (vsorts pre xs post : List Sort) (k : ℕ) → vsorts ≡ pre ++ (xs ++ post) → length pre ≡ k → SortsAre vsorts (from k xs) xs
 sorts_from vsorts pre [] post k is n = tt
-sorts_from vsorts pre (x ∷ xs) post k is n =
-    (ap (λ vs. slice_get vs k) is ∙ get_seam pre x (xs ++ post) k n,
-     sorts_from vsorts (pre ++ x ∷ []) xs post (k + 1) (is ∙ sym (append_assoc pre (x ∷ []) (xs ++ post))) (omega (arith, length-append pre (x ∷ []), n)))
+sorts_from vsorts pre (x ∷ xs) post k is n = (
+  ap (λ vs. slice_get vs k) is ∙ get_seam pre x (xs ++ post) k n,
+  sorts_from vsorts (pre ++ x ∷ []) xs post (k + 1) (is ∙ sym (append_assoc pre (x ∷ []) (xs ++ post))) (omega (arith, length-append pre (x ∷ []), n)),
+)
 
 sorts_both : (vsorts : List Sort) (vs ws : List ℕ) (ss rs : List Sort) → SortsAre vsorts vs ss → SortsAre vsorts ws rs → SortsAre vsorts (vs ++ ws) (ss ++ rs)
 sorts_both vsorts [] ws [] rs h k = k
@@ -128,8 +129,8 @@ cur_sets flat q vsorts pre ss post cur (x ∷ xs) [] k h t is n = h
 cur_sets flat q vsorts pre [] post cur (x ∷ xs) (y ∷ ys) k h t is n = absurd t
 cur_sets flat q vsorts pre (s ∷ ss) post cur (x ∷ xs) (y ∷ ys) k h (t, ts) is n =
     cur_sets flat q vsorts (pre ++ s ∷ []) ss post (set_version cur x k) xs ys (k + 1)
-        (cur_set flat q vsorts cur x k s h t (ap (λ vs. slice_get vs k) is ∙ get_seam pre s (ss ++ post) k n)) ts
-        (is ∙ sym (append_assoc pre (s ∷ []) (ss ++ post))) (omega (arith, length-append pre (s ∷ []), n))
+    (cur_set flat q vsorts cur x k s h t (ap (λ vs. slice_get vs k) is ∙ get_seam pre s (ss ++ post) k n)) ts
+    (is ∙ sym (append_assoc pre (s ∷ []) (ss ++ post))) (omega (arith, length-append pre (s ∷ []), n))
 
 -- ---- expressions
 
@@ -239,22 +240,26 @@ cmd_fine flat q vsorts cur at k (Assign pairs) g h n p =
     record {
       fit = lets_fit flat q vsorts cur k pairs h n p;
       cur_fits = cur_sets flat q (vsorts ++ made items) vsorts (pair_sorts pairs) [] cur (targets_of pairs) pairs k (cur_more flat q vsorts (made items) cur h) (pair_targets flat q pairs p) row (sym n);
-      count = omega (arith, n, length-append vsorts (made items), ap length (lets_made cur k pairs), pair_count pairs) }
+      count = omega (arith, n, length-append vsorts (made items), ap length (lets_made cur k pairs), pair_count pairs);
+    }
 cmd_fine flat q vsorts cur at k (Havoc xs) g h n p =
     let items = frees flat q k xs in
     let row : vsorts ++ made items ≡ vsorts ++ (name_sorts flat q xs ++ []) = ap (λ r. vsorts ++ r) (frees_made flat q k xs ∙ sym (append-nil (name_sorts flat q xs))) in
     record {
       fit = frees_fit flat q vsorts k xs n p;
       cur_fits = cur_sets flat q (vsorts ++ made items) vsorts (name_sorts flat q xs) [] cur xs xs k (cur_more flat q vsorts (made items) cur h) (name_targets flat q xs p) row (sym n);
-      count = omega (arith, n, length-append vsorts (made items), ap length (frees_made flat q k xs), name_count flat q xs) }
+      count = omega (arith, n, length-append vsorts (made items), ap length (frees_made flat q k xs), name_count flat q xs);
+    }
 cmd_fine flat q vsorts cur at k (Assume e) g h n (w, r) = record {
   fit = ((whole_same cur e ∙ w, reads_in flat q vsorts cur e h r), tt);
   cur_fits = cur_more flat q vsorts [] cur h;
-  count = omega (arith, n, length-append vsorts []) }
+  count = omega (arith, n, length-append vsorts []);
+}
 cmd_fine flat q vsorts cur at k (Assert p m e) g h n (w, r) = record {
   fit = ((whole_same cur e ∙ w, reads_in flat q vsorts cur e h r), tt);
   cur_fits = cur_more flat q vsorts [] cur h;
-  count = omega (arith, n, length-append vsorts []) }
+  count = omega (arith, n, length-append vsorts []);
+}
 cmd_fine flat q vsorts cur at k (Call p args outs) g h n (a, t, o) =
     let own = callee_outs flat p in
     let gs = changed_sorts flat p in
@@ -269,7 +274,8 @@ cmd_fine flat q vsorts cur at k (Call p args outs) g h n (a, t, o) =
     record {
       fit = ((n, all_read flat q vsorts cur args h a, all_there vsorts cur.globals flat.globals h.globals, sorts_append own gs (good_sorts own o) (good_sorts gs (good_picked (callee_changes flat p) flat.globals g))), tt);
       cur_fits = cur_sets flat q vs (vsorts ++ bool_sort ∷ []) own gs after outs own (k + 1) after_fits t row n1;
-      count = omega (arith, n, length-append vsorts (all ++ []), length-append all [], length-append own gs) }
+      count = omega (arith, n, length-append vsorts (all ++ []), length-append all [], length-append own gs);
+    }
 
 cmds_fine : (flat : Limited) (q : FlatProc) (vsorts : List Sort) (cur : Cur) (at k : ℕ) (cmds : List FlatCmd) → SortsGood flat.globals → CurFits flat q vsorts cur → k ≡ length vsorts → CmdsSorted flat q cmds →
     ItemsFit flat.consts vsorts (items_all flat q cur at k cmds) × CurFits flat q (vsorts ++ made (items_all flat q cur at k cmds)) (cur_end flat cur k cmds)
@@ -279,9 +285,10 @@ cmds_fine flat q vsorts cur at k (c ∷ cs) g h n (p, ps) =
     let r = cmd_fine flat q vsorts cur at k c g h n p in
     let next = cur_after flat cur k c in
     let ys = items_all flat q next (at + 1) (next_after flat k c) cs in
-    let z = cmds_fine flat q (vsorts ++ made xs) next (at + 1) (next_after flat k c) cs g r.cur_fits r.count ps in
-    (fit_append flat.consts vsorts xs ys r.fit z.0,
-     subst (λ (ss : List Sort). CurFits flat q ss (cur_end flat next (next_after flat k c) cs)) (append_assoc vsorts (made xs) (made ys) ∙ ap (λ r. vsorts ++ r) (sym (made_append xs ys))) z.1)
+    let z = cmds_fine flat q (vsorts ++ made xs) next (at + 1) (next_after flat k c) cs g r.cur_fits r.count ps in (
+      fit_append flat.consts vsorts xs ys r.fit z.0,
+      subst (λ (ss : List Sort). CurFits flat q ss (cur_end flat next (next_after flat k c) cs)) (append_assoc vsorts (made xs) (made ys) ∙ ap (λ r. vsorts ++ r) (sym (made_append xs ys))) z.1,
+    )
   where
     made_append : (xs ys : List Item) → made (xs ++ ys) ≡ made xs ++ made ys
     made_append [] ys = refl
@@ -292,7 +299,8 @@ cmds_fine flat q vsorts cur at k (c ∷ cs) g h n (p, ps) =
 entry_fits : (flat : Limited) (q : FlatProc) → CurFits flat q (flat.globals ++ variables_of q) (entry_cur flat q)
 entry_fits flat q = record {
   globals = sorts_from (flat.globals ++ variables_of q) [] flat.globals (variables_of q) 0 refl refl;
-  locals = sorts_from (flat.globals ++ variables_of q) flat.globals (variables_of q) [] (length flat.globals) (ap (λ r. flat.globals ++ r) (sym (append-nil (variables_of q)))) refl }
+  locals = sorts_from (flat.globals ++ variables_of q) flat.globals (variables_of q) [] (length flat.globals) (ap (λ r. flat.globals ++ r) (sym (append-nil (variables_of q)))) refl;
+}
 
 has_target : (next : FlatNext) → LeadsOn next → HasTarget next
 has_target Return h = tt
@@ -352,7 +360,8 @@ start_fine flat q (Source p) o l t =
     record {
       items = free_fit flat.consts (flat.globals ++ q.ins) k ss n (good_append q.outs q.locals o l);
       globals = sorts_from vs [] flat.globals (q.ins ++ ss) 0 row refl;
-      locals = sorts_both vs (from (length flat.globals) q.ins) (from k ss) q.ins ss (sorts_from vs flat.globals q.ins ss (length flat.globals) row refl) (sorts_from vs (flat.globals ++ q.ins) ss [] k row2 (sym n)) }
+      locals = sorts_both vs (from (length flat.globals) q.ins) (from k ss) q.ins ss (sorts_from vs flat.globals q.ins ss (length flat.globals) row refl) (sorts_from vs (flat.globals ++ q.ins) ss [] k row2 (sym n));
+    }
 start_fine flat q (Loop p head) o l t =
     let k = length flat.globals + length q.ins in
     let zs = exit_sort ∷ q.locals in
@@ -368,7 +377,8 @@ start_fine flat q (Loop p head) o l t =
       items = zero_fit flat.consts (flat.globals ++ q.ins) k zs n (refl, l);
       globals = sorts_from vs [] flat.globals (q.ins ++ zs) 0 row refl;
       locals = subst (λ (ss : List Sort). SortsAre vs (ins ++ (ins ++ from k zs)) ss) all
-          (sorts_both vs ins (ins ++ from k zs) q.ins (q.ins ++ zs) one (sorts_both vs ins (from k zs) q.ins zs one (sorts_from vs (flat.globals ++ q.ins) zs [] k row2 (sym n)))) }
+          (sorts_both vs ins (ins ++ from k zs) q.ins (q.ins ++ zs) one (sorts_both vs ins (from k zs) q.ins zs one (sorts_from vs (flat.globals ++ q.ins) zs [] k row2 (sym n))));
+    }
 
 pub passive_fits : (flat : Limited) (q : FlatProc) (order : List ℕ) → ProcSorted flat q → PassiveFits (passive_of flat q order)
 passive_fits flat q order h =

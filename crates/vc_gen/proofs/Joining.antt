@@ -116,11 +116,11 @@ fits_before a x y h k = fits_front a x h.nodes.0 (subst (λ (ns : List TermNode)
 pub site_later : (x y : List TermNode) (a : ℕ → Value) (s : SiteTerm) → Later x y → SiteThere x s → site_value a y s ≡ site_value a x s
 site_later x y a s h t =
     same (is_on (value a y s.node)) (is_on (value a x s.node)) (map (at (values a y)) s.args) (map (at (values a x)) s.args) (map (at (values a y)) s.globals_before) (map (at (values a x)) s.globals_before)
-        (map (at (values a y)) s.outs) (map (at (values a x)) s.outs) (map (at (values a y)) s.changed) (map (at (values a x)) s.changed) (map (at (values a y)) s.globals_after) (map (at (values a x)) s.globals_after) (is_on (value a y s.fails)) (is_on (value a x s.fails))
-        (ap is_on (value_later x y a s.node h (sort_within x s.node bool_sort t.node)))
-        (map_later x y a s.args t.args.0 h t.args.1) (map_later x y a s.globals_before t.before.0 h t.before.1)
-        (map_later x y a s.outs t.outs.0 h t.outs.1) (map_later x y a s.changed t.changed.0 h t.changed.1) (map_later x y a s.globals_after t.after.0 h t.after.1)
-        (ap is_on (value_later x y a s.fails h (sort_within x s.fails bool_sort t.fails)))
+    (map (at (values a y)) s.outs) (map (at (values a x)) s.outs) (map (at (values a y)) s.changed) (map (at (values a x)) s.changed) (map (at (values a y)) s.globals_after) (map (at (values a x)) s.globals_after) (is_on (value a y s.fails)) (is_on (value a x s.fails))
+    (ap is_on (value_later x y a s.node h (sort_within x s.node bool_sort t.node)))
+    (map_later x y a s.args t.args.0 h t.args.1) (map_later x y a s.globals_before t.before.0 h t.before.1)
+    (map_later x y a s.outs t.outs.0 h t.outs.1) (map_later x y a s.changed t.changed.0 h t.changed.1) (map_later x y a s.globals_after t.after.0 h t.after.1)
+    (ap is_on (value_later x y a s.fails h (sort_within x s.fails bool_sort t.fails)))
   where
     same : (p p' : Bool) (q q' r r' u u' x x' v v' : List Value) (w w' : Bool) → p ≡ p' → q ≡ q' → r ≡ r' → u ≡ u' → x ≡ x' → v ≡ v' → w ≡ w' →
         ◌≡◌ {A = SiteMeans} (record { proc = s.proc; on = p; args = q; before = r; outs = u; changed = x; after = v; fails = w }) (record { proc = s.proc; on = p'; args = q'; before = r'; outs = u'; changed = x'; after = v'; fails = w' })
@@ -169,13 +169,16 @@ site_stays x y s h t = record {
   fails = sort_later x y s.fails bool_sort h t.fails;
   failed = sort_later x y s.failed bool_sort h t.failed;
   fails_is = λ a f.
-    ap is_on (value_later x y a s.fails h (sort_within x s.fails bool_sort t.fails)) ∙ t.fails_is a (fits_before a x y h f)
-    ∙ ap (λ v. is_on v && is_on (value a x s.failed)) (sym (value_later x y a s.node h (sort_within x s.node bool_sort t.node)))
-    ∙ ap (λ v. is_on (value a y s.node) && is_on v) (sym (value_later x y a s.failed h (sort_within x s.failed bool_sort t.failed)));
+      ap is_on (value_later x y a s.fails h (sort_within x s.fails bool_sort t.fails)) ∙ t.fails_is a (fits_before a x y h f)
+      ∙ ap (λ v. is_on v && is_on (value a x s.failed)) (sym (value_later x y a s.node h (sort_within x s.node bool_sort t.node)))
+      ∙ ap (λ v. is_on (value a y s.node) && is_on v) (sym (value_later x y a s.failed h (sort_within x s.failed bool_sort t.failed)));
   variables = (t.variables.0, variables_stay x y (s.failed ∷ (s.outs ++ s.changed)) s.first t.variables.0 h t.variables.1);
-  args_before = t.args_before; globals_before = t.globals_before; others_behind = t.others_behind;
+  args_before = t.args_before;
+  globals_before = t.globals_before;
+  others_behind = t.others_behind;
   numbers = subst (λ (ns : List TermNode). IsTrue (below s.first ns)) (sym (same_front x y s.failed h (first_within x s.failed (s.outs ++ s.changed) s.first t.variables.0 t.variables.1))) t.numbers;
-  after_is = t.after_is }
+  after_is = t.after_is;
+}
 
 pub sites_stay : (x y : List TermNode) (ss : List SiteTerm) → Later x y → SitesThere x ss → SitesThere y ss
 sites_stay x y [] h t = tt
@@ -239,7 +242,8 @@ pub meant_back : (a : ℕ → Value) (x y : List TermNode) (cs versions more beh
     behind ≡ versions ++ more → Meant a y cs behind consts vals → Meant a x cs versions consts vals
 meant_back a x y cs versions more behind csorts vsorts consts vals h c w is m = record {
   consts_are = sym (map_later x y a cs csorts h c) ∙ m.consts_are;
-  each = λ v t k. m.each v t (ap (λ vs. slice_get vs v) is ∙ get_front versions more v t k) ∙ value_later x y a t h (version_within x versions vsorts v t w k) }
+  each = λ v t k. m.each v t (ap (λ vs. slice_get vs v) is ∙ get_front versions more v t k) ∙ value_later x y a t h (version_within x versions vsorts v t w k);
+}
 
 pub stands_then : (cs : List ℕ) (block : ℕ) (old new : List TermNode) (d e : Draft) (csorts vsorts : List Sort) (items : List Item) → Stands old cs d csorts vsorts → Step cs block old d items new e →
     Stands new cs e csorts (vsorts ++ made items)
@@ -247,7 +251,10 @@ stands_then cs block old new d e csorts vsorts items h s = record {
   sound = s.later.sound;
   consts = are_later old new cs csorts s.later h.consts;
   versions = subst (λ (vs : List ℕ). AreOf new vs (vsorts ++ made items)) (sym s.versions) (are_append new d.versions s.more vsorts (made items) (are_later old new d.versions vsorts s.later h.versions) s.are);
-  cond = s.cond; fails = s.fails; next = s.below }
+  cond = s.cond;
+  fails = s.fails;
+  next = s.below;
+}
 
 places_append : (b k n m : ℕ) → places_from b k (n + m) ≡ places_from b k n ++ places_from b (k + n) m
 places_append b k zero m =
@@ -261,10 +268,27 @@ places_append b k (suc n) m =
 
 pub step_nil : (cs : List ℕ) (block : ℕ) (old : List TermNode) (d : Draft) (csorts vsorts : List Sort) → Stands old cs d csorts vsorts → Step cs block old d [] old d
 step_nil cs block old d csorts vsorts h = record {
-  later = later_same old h.sound; more = []; versions = sym (append-nil d.versions); are = tt; cond = h.cond; fails = h.fails;
-  next = omega arith; below = h.next; sites = []; sites_there = tt; sites_of = tt; sites_behind = sym (append-nil d.sites); numbered = refl; calls = omega arith; variables = sym (append-nil (variables_in old)); asserts = []; asserts_there = tt; asserts_behind = sym (append-nil d.asserts);
+  later = later_same old h.sound;
+  more = [];
+  versions = sym (append-nil d.versions);
+  are = tt;
+  cond = h.cond;
+  fails = h.fails;
+  next = omega arith;
+  below = h.next;
+  sites = [];
+  sites_there = tt;
+  sites_of = tt;
+  sites_behind = sym (append-nil d.sites);
+  numbered = refl;
+  calls = omega arith;
+  variables = sym (append-nil (variables_in old));
+  asserts = [];
+  asserts_there = tt;
+  asserts_behind = sym (append-nil d.asserts);
   says = λ a consts vals f m. record { defined = tt; on = refl; fails = refl; inputs_are = refl; sites_are = refl; asserts_are = refl };
-  fit = λ a f k. f }
+  fit = λ a f k. f;
+}
 
 pub step_then : (cs : List ℕ) (block : ℕ) (old mid new : List TermNode) (d m e : Draft) (csorts vsorts : List Sort) (xs ys : List Item) → Stands old cs d csorts vsorts →
     Step cs block old d xs mid m → Step cs block mid m ys new e → Step cs block old d (xs ++ ys) new e
@@ -272,13 +296,14 @@ step_then cs block old mid new d m e csorts vsorts xs ys h s t =
     let st = stands_then cs block old mid d m csorts vsorts xs h s in
     let n : length (chosen (xs ++ ys)) ≡ length (chosen xs) + length (chosen ys) = ap length (chosen_append xs ys) ∙ length-append (chosen xs) (chosen ys) in
     let split : (a : ℕ → Value) → reads a d.next (length (chosen (xs ++ ys))) ≡ reads a d.next (length (chosen xs)) ++ reads a m.next (length (chosen ys)) = λ a.
-        ap (reads a d.next) n ∙ reads_append a d.next (length (chosen xs)) (length (chosen ys)) ∙ ap (λ i. reads a d.next (length (chosen xs)) ++ reads a i (length (chosen ys))) (sym s.next) in
+    ap (reads a d.next) n ∙ reads_append a d.next (length (chosen xs)) (length (chosen ys)) ∙ ap (λ i. reads a d.next (length (chosen xs)) ++ reads a i (length (chosen ys))) (sym s.next) in
     record {
       later = later_then old mid new s.later t.later;
       more = s.more ++ t.more;
       versions = t.versions ∙ ap (λ vs. vs ++ t.more) s.versions ∙ append_assoc d.versions s.more t.more;
       are = subst (λ (ss : List Sort). AreOf new (s.more ++ t.more) ss) (sym (made_append xs ys)) (are_append new s.more t.more (made xs) (made ys) (are_later mid new s.more (made xs) t.later s.are) t.are);
-      cond = t.cond; fails = t.fails;
+      cond = t.cond;
+      fails = t.fails;
       next = omega (arith, t.next, s.next, n);
       below = t.below;
       sites = s.sites ++ t.sites;
@@ -294,23 +319,25 @@ step_then cs block old mid new d m e csorts vsorts xs ys h s t =
       asserts_there = fails_there_append new s.asserts t.asserts (fails_stay mid new s.asserts t.later s.asserts_there) t.asserts_there;
       asserts_behind = t.asserts_behind ∙ ap (λ r. r ++ t.asserts) s.asserts_behind ∙ append_assoc d.asserts s.asserts t.asserts;
       says = λ a consts vals f w.
-        let two = t.says a consts vals f w in
-        let one = s.says a consts vals (fits_before a mid new t.later f) (meant_back a mid new cs m.versions t.more e.versions csorts (vsorts ++ made xs) consts vals t.later st.consts st.versions t.versions w) in
-        let on = is_on (value a old d.cond) in
-        let gone = is_on (value a old d.fails) in
-        record {
-          defined = defined_append consts vals xs ys one.defined two.defined;
-          on = two.on ∙ ap (λ b. on_end consts vals b ys) one.on ∙ sym (on_append consts vals on xs ys);
-          fails = two.fails ∙ ap (λ b. fails_in consts vals b (is_on (value a mid m.fails)) ys) one.on ∙ ap (λ b. fails_in consts vals (on_end consts vals on xs) b ys) one.fails
-                  ∙ sym (fails_append consts vals on gone xs ys);
-          inputs_are = inputs_append vals xs ys ∙ ap (λ r. r ++ inputs vals ys) one.inputs_are ∙ ap (λ r. reads a d.next (length (chosen xs)) ++ r) two.inputs_are ∙ sym (split a);
-          sites_are = map-append (site_value a new) s.sites t.sites ∙ ap (λ r. r ++ map (site_value a new) t.sites) (sites_later mid new a s.sites t.later s.sites_there ∙ one.sites_are)
-                  ∙ ap (λ r. sites_in consts vals on xs ++ r) (two.sites_are ∙ ap (λ b. sites_in consts vals b ys) one.on) ∙ sym (sites_append consts vals on xs ys);
-          asserts_are = map-append (fail_value a new) s.asserts t.asserts ∙ ap (λ r. r ++ map (fail_value a new) t.asserts) (fail_later mid new a s.asserts t.later s.asserts_there ∙ one.asserts_are)
-                  ∙ ap (λ r. asserts_in block consts vals on xs ++ r) (two.asserts_are ∙ ap (λ b. asserts_in block consts vals b ys) one.on) ∙ sym (asserts_append block consts vals on xs ys) };
+          let two = t.says a consts vals f w in
+          let one = s.says a consts vals (fits_before a mid new t.later f) (meant_back a mid new cs m.versions t.more e.versions csorts (vsorts ++ made xs) consts vals t.later st.consts st.versions t.versions w) in
+          let on = is_on (value a old d.cond) in
+          let gone = is_on (value a old d.fails) in
+          record {
+            defined = defined_append consts vals xs ys one.defined two.defined;
+            on = two.on ∙ ap (λ b. on_end consts vals b ys) one.on ∙ sym (on_append consts vals on xs ys);
+            fails = two.fails ∙ ap (λ b. fails_in consts vals b (is_on (value a mid m.fails)) ys) one.on ∙ ap (λ b. fails_in consts vals (on_end consts vals on xs) b ys) one.fails
+                ∙ sym (fails_append consts vals on gone xs ys);
+            inputs_are = inputs_append vals xs ys ∙ ap (λ r. r ++ inputs vals ys) one.inputs_are ∙ ap (λ r. reads a d.next (length (chosen xs)) ++ r) two.inputs_are ∙ sym (split a);
+            sites_are = map-append (site_value a new) s.sites t.sites ∙ ap (λ r. r ++ map (site_value a new) t.sites) (sites_later mid new a s.sites t.later s.sites_there ∙ one.sites_are)
+                ∙ ap (λ r. sites_in consts vals on xs ++ r) (two.sites_are ∙ ap (λ b. sites_in consts vals b ys) one.on) ∙ sym (sites_append consts vals on xs ys);
+            asserts_are = map-append (fail_value a new) s.asserts t.asserts ∙ ap (λ r. r ++ map (fail_value a new) t.asserts) (fail_later mid new a s.asserts t.later s.asserts_there ∙ one.asserts_are)
+                ∙ ap (λ r. asserts_in block consts vals on xs ++ r) (two.asserts_are ∙ ap (λ b. asserts_in block consts vals b ys) one.on) ∙ sym (asserts_append block consts vals on xs ys);
+          };
       fit = λ a f k.
-        let k2 : sorted_as (chosen xs ++ chosen ys) (reads a d.next (length (chosen xs)) ++ reads a m.next (length (chosen ys))) ≡ true =
-            sym (ap (λ r. sorted_as (chosen (xs ++ ys)) r) (split a) ∙ ap (λ r. sorted_as r (reads a d.next (length (chosen xs)) ++ reads a m.next (length (chosen ys)))) (chosen_append xs ys)) ∙ k in
-        let l = length_reads a d.next (length (chosen xs)) in
-        t.fit a (s.fit a f (sorts_left (chosen xs) (chosen ys) (reads a d.next (length (chosen xs))) (reads a m.next (length (chosen ys))) l k2))
-            (sorts_right (chosen xs) (chosen ys) (reads a d.next (length (chosen xs))) (reads a m.next (length (chosen ys))) l k2) }
+          let k2 : sorted_as (chosen xs ++ chosen ys) (reads a d.next (length (chosen xs)) ++ reads a m.next (length (chosen ys))) ≡ true =
+          sym (ap (λ r. sorted_as (chosen (xs ++ ys)) r) (split a) ∙ ap (λ r. sorted_as r (reads a d.next (length (chosen xs)) ++ reads a m.next (length (chosen ys)))) (chosen_append xs ys)) ∙ k in
+          let l = length_reads a d.next (length (chosen xs)) in
+          t.fit a (s.fit a f (sorts_left (chosen xs) (chosen ys) (reads a d.next (length (chosen xs))) (reads a m.next (length (chosen ys))) l k2))
+          (sorts_right (chosen xs) (chosen ys) (reads a d.next (length (chosen xs))) (reads a m.next (length (chosen ys))) l k2);
+    }

@@ -36,7 +36,7 @@ split_same {A} (x ∷ xs) ys (u ∷ us) vs n h =
 pub read_split : (a : ℕ → Value) (k : ℕ) (xs ys : List Value) → reads a k (length (xs ++ ys)) ≡ xs ++ ys → (reads a k (length xs) ≡ xs) × (reads a (k + length xs) (length ys) ≡ ys)
 read_split a k xs ys h =
     split_same (reads a k (length xs)) (reads a (k + length xs) (length ys)) xs ys (length_reads a k (length xs))
-        (sym (reads_append a k (length xs) (length ys)) ∙ ap (reads a k) (sym (length-append xs ys)) ∙ h)
+    (sym (reads_append a k (length xs) (length ys)) ∙ ap (reads a k) (sym (length-append xs ys)) ∙ h)
 
 abbrev pub bits : List Bool → List Value
 bits [] = []
@@ -72,11 +72,11 @@ given_read flat q g s a k h =
     let ins : reads a k (length (chosen (items_at flat q g.number))) ≡ s.ins = ap (reads a k) (sym n) ∙ two.0 in
     let count : choices_at q g.number ≡ length (bits g.choices) = sym s.count ∙ sym (bits_count g.choices) in
     same_given g.number (values_in (items_at flat q g.number) (reads a k (length (chosen (items_at flat q g.number))))) g.values
-        (results_in (items_at flat q g.number) (reads a k (length (chosen (items_at flat q g.number))))) g.results
-        (map is_on (reads a (k + length (chosen (items_at flat q g.number))) (choices_at q g.number))) g.choices
-        (ap (values_in (items_at flat q g.number)) ins ∙ s.values_are)
-        (ap (results_in (items_at flat q g.number)) ins ∙ s.results_are)
-        (ap (λ i. map is_on (reads a (k + i) (choices_at q g.number))) (sym n) ∙ ap (λ i. map is_on (reads a (k + length s.ins) i)) count ∙ ap (map is_on) two.1 ∙ bits_on g.choices)
+    (results_in (items_at flat q g.number) (reads a k (length (chosen (items_at flat q g.number))))) g.results
+    (map is_on (reads a (k + length (chosen (items_at flat q g.number))) (choices_at q g.number))) g.choices
+    (ap (values_in (items_at flat q g.number)) ins ∙ s.values_are)
+    (ap (results_in (items_at flat q g.number)) ins ∙ s.results_are)
+    (ap (λ i. map is_on (reads a (k + i) (choices_at q g.number))) (sym n) ∙ ap (λ i. map is_on (reads a (k + length s.ins) i)) count ∙ ap (map is_on) two.1 ∙ bits_on g.choices)
 
 pub laid : (flat : Limited) (q : FlatProc) (gs : List Given) → Each (Shaped flat q) gs → Laid flat q gs (map (λ (g : Given). g.number) gs)
 laid flat q [] h = record { vs = []; sorts = refl; read = λ a k r. refl }
@@ -84,16 +84,17 @@ laid flat q (g ∷ gs) (s, h) =
     let rest = laid flat q gs h in
     let own = s.ins ++ bits g.choices in
     let own_sorts : sorted_as (sorts_of_block flat q g.number) own ≡ true =
-        sorts_both (chosen (items_at flat q g.number)) (replicate (choices_at q g.number) bool_sort) s.ins (bits g.choices) s.sorts (bits_have g.choices (choices_at q g.number) s.count) in
+    sorts_both (chosen (items_at flat q g.number)) (replicate (choices_at q g.number) bool_sort) s.ins (bits g.choices) s.sorts (bits_have g.choices (choices_at q g.number) s.count) in
     let n : length own ≡ length (sorts_of_block flat q g.number) = length_have (sorts_of_block flat q g.number) own own_sorts in
     record {
       vs = own ++ rest.vs;
       sorts = sorts_both (sorts_of_block flat q g.number) (sorts_of_blocks flat q (map (λ (x : Given). x.number) gs)) own rest.vs own_sorts rest.sorts;
       read = λ a k r.
-        let two = read_split a k own rest.vs r in
-        ap (λ x. x ∷ givens_at flat q a (k + length (sorts_of_block flat q g.number)) (map (λ (x : Given). x.number) gs)) (given_read flat q g s a k two.0)
-        ∙ ap (λ i. g ∷ givens_at flat q a (k + i) (map (λ (x : Given). x.number) gs)) (sym n)
-        ∙ ap (λ x. g ∷ x) (rest.read a (k + length own) two.1) }
+          let two = read_split a k own rest.vs r in
+          ap (λ x. x ∷ givens_at flat q a (k + length (sorts_of_block flat q g.number)) (map (λ (x : Given). x.number) gs)) (given_read flat q g s a k two.0)
+          ∙ ap (λ i. g ∷ givens_at flat q a (k + i) (map (λ (x : Given). x.number) gs)) (sym n)
+          ∙ ap (λ x. g ∷ x) (rest.read a (k + length own) two.1);
+    }
 
 -- ---- a block that isn't passed takes zeros
 
@@ -115,8 +116,11 @@ falses_count (suc n) = ap suc (falses_count n)
 
 abbrev pub dull : Limited → FlatProc → ℕ → Given
 dull flat q n = record {
-  number = n; values = values_in (items_at flat q n) (zeros (chosen (items_at flat q n))); results = results_in (items_at flat q n) (zeros (chosen (items_at flat q n)));
-  choices = falses (choices_at q n) }
+  number = n;
+  values = values_in (items_at flat q n) (zeros (chosen (items_at flat q n)));
+  results = results_in (items_at flat q n) (zeros (chosen (items_at flat q n)));
+  choices = falses (choices_at q n);
+}
 
 pub dull_shaped : (flat : Limited) (q : FlatProc) → ((n : ℕ) → AreSorts (chosen (items_at flat q n))) → (n : ℕ) → Shaped flat q (dull flat q n)
 dull_shaped flat q are n = record { ins = zeros (chosen (items_at flat q n)); sorts = zeros_have (chosen (items_at flat q n)) (are n); values_are = refl; results_are = refl; count = falses_count (choices_at q n) }

@@ -60,7 +60,8 @@ lit_plain old new b is = plain_push old new (Lit (BoolAtom b)) (λ k. refl) (λ 
 pub lit_is : (old new : List TermNode) (b : Bool) (t : ℕ) → IsSome (sorts old) → new ≡ old ++ Lit (BoolAtom b) ∷ [] → t ≡ length old → IsLiteral new t b
 lit_is old new b t h is at_end = record {
   sort = ap (λ (ns : List TermNode). sort_at ns t) is ∙ ap (sort_at (old ++ Lit (BoolAtom b) ∷ [])) at_end ∙ sort_added old (Lit (BoolAtom b)) bool_sort (lit_behind old b h);
-  means = λ a. ap (λ (ns : List TermNode). is_on (value a ns t)) is ∙ ap (λ i. is_on (value a (old ++ Lit (BoolAtom b) ∷ []) i)) at_end ∙ lit_value a old b }
+  means = λ a. ap (λ (ns : List TermNode). is_on (value a ns t)) is ∙ ap (λ i. is_on (value a (old ++ Lit (BoolAtom b) ∷ []) i)) at_end ∙ lit_value a old b;
+}
 
 -- ---- the items of a start
 
@@ -148,8 +149,8 @@ begun flat q (Loop p head) consts globals args own more vals h is g a =
     let none : own ≡ [] = sym is ∙ zero_inputs k zs in
     let z : map vals (from k zs) ≡ map zero_of zs = zero_have consts vals k zs h in
     let ls : args ++ (args ++ map zero_of zs) ≡ map vals (ns ++ (ns ++ from k zs)) =
-        ap (λ x. x ++ (x ++ map zero_of zs)) (sym a) ∙ ap (λ x. map vals ns ++ (map vals ns ++ x)) (sym z)
-        ∙ ap (λ x. map vals ns ++ x) (sym (map-append vals ns (from k zs))) ∙ sym (map-append vals ns (ns ++ from k zs)) in
+    ap (λ x. x ++ (x ++ map zero_of zs)) (sym a) ∙ ap (λ x. map vals ns ++ (map vals ns ++ x)) (sym z)
+    ∙ ap (λ x. map vals ns ++ x) (sym (map-append vals ns (from k zs))) ∙ sym (map-append vals ns (ns ++ from k zs)) in
     ap (λ x. Some (alone (record { consts = consts; globals = globals; locals = args ++ (args ++ map zero_of zs) }) (x ++ more) [] [])) none
     ∙ ap (λ (x : Env). Some (alone x more [] [])) (same_env consts globals (map vals (from 0 flat.globals)) (args ++ (args ++ map zero_of zs)) (map vals (ns ++ (ns ++ from k zs))) (sym g) ls)
   where
@@ -161,7 +162,6 @@ begun flat q (Loop p head) consts globals args own more vals h is g a =
 module _ (flat : Limited) (q : FlatProc) (kind : FlatKind) (cs globals args : List ℕ) (old new : List TermNode) (d e : Draft)
     (c_are : AreOf old cs flat.consts) (g_are : AreOf old globals flat.globals) (i_are : AreOf old args q.ins) (versions : d.versions ≡ globals ++ args)
     (s : Step cs 0 old d (passive_start flat q kind).items new e) where
-
   pub start_begins : (a : ℕ → Value) (more : List Value) → IsTrue (fits a new) →
       start q kind (all_at a new cs) (all_at a new globals) (all_at a new args) (reads a d.next (length (start_sorts q kind)) ++ more)
       ≡ Some (alone (record { consts = all_at a new cs; globals = all_at a new (terms_of e.versions (passive_start flat q kind).globals); locals = all_at a new (terms_of e.versions (passive_start flat q kind).locals) }) more [] [])
@@ -181,7 +181,7 @@ module _ (flat : Limited) (q : FlatProc) (kind : FlatKind) (cs globals args : Li
       let p = passive_start flat q kind in
       begun flat q kind consts (all_at a new globals) (all_at a new args) (reads a d.next (length (start_sorts q kind))) more vals says.defined own g_is i_is
       ∙ ap (λ (x : Env). Some (alone x more [] [])) (same_env consts (map vals p.globals) (all_at a new (terms_of e.versions p.globals)) (map vals p.locals) (all_at a new (terms_of e.versions p.locals))
-          (sym (terms_are a new e.versions p.globals)) (sym (terms_are a new e.versions p.locals)))
+      (sym (terms_are a new e.versions p.globals)) (sym (terms_are a new e.versions p.locals)))
 
 -- ---- the outs
 

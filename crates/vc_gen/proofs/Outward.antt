@@ -29,14 +29,31 @@ are_terms nodes versions vsorts (v ∷ vs) (s ∷ ss) h (k, ks) = (are_at nodes 
 
 pub left_goto : (old new : List TermNode) (d e : Draft) (ts globals locals : List ℕ) (before waits : List Wait) → Fanned old d ts globals locals before new e waits → LeftBy old d (Goto ts) globals locals before new e waits
 left_goto old new d e ts globals locals before waits h = record {
-  later = h.later; frame = h.frame; next_is = h.next; below = h.below; numbers = h.numbers; more = h.more; waits_are = h.waits_are; of = h.of; says = h.says; fit = h.fit }
+  later = h.later;
+  frame = h.frame;
+  next_is = h.next;
+  below = h.below;
+  numbers = h.numbers;
+  more = h.more;
+  waits_are = h.waits_are;
+  of = h.of;
+  says = h.says;
+  fit = h.fit;
+}
 
 pub left_return : (old : List TermNode) (d : Draft) (globals locals : List ℕ) (before waits : List Wait) → IsSome (sorts old) → sort_at old d.cond ≡ Some bool_sort → IsTrue (below d.next old) →
     waits ≡ before ++ record { target = None; live = d.cond; globals = globals; locals = locals } ∷ [] → LeftBy old d Return globals locals before old d waits
 left_return old d globals locals before waits h c b is =
     let w : Wait = record { target = None; live = d.cond; globals = globals; locals = locals } in
     record {
-      later = later_same old h; frame = refl; next_is = omega arith; below = b; numbers = sym (append-nil (variables_in old)); more = w ∷ []; waits_are = is;
+      later = later_same old h;
+      frame = refl;
+      next_is = omega arith;
+      below = b;
+      numbers = sym (append-nil (variables_in old));
+      more = w ∷ [];
+      waits_are = is;
       of = λ gs ls g l. (record { live = c; globals = g; locals = l }, tt);
       says = λ a consts f. refl;
-      fit = λ a f k. f }
+      fit = λ a f k. f;
+    }

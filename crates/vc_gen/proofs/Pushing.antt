@@ -66,7 +66,7 @@ bit_push : (old new : List TermNode) (node : TermNode) (t : ℕ) (f : (ℕ → V
     new ≡ old ++ node ∷ [] → t ≡ length old → Bit old new t f
 bit_push old new node t f s m is at_end =
     subst (λ (i : ℕ). Bit old new i f) (sym at_end) (subst (λ (ns : List TermNode). Bit old ns (length old) f) (sym is)
-        (record { sort = sort_added old node bool_sort s; means = λ a h. ap is_on (value-new a old node) ∙ m a h }))
+    (record { sort = sort_added old node bool_sort s; means = λ a h. ap is_on (value-new a old node) ∙ m a h }))
 
 pub and_behind : (old : List TermNode) (l r : ℕ) → sort_at old l ≡ Some bool_sort → sort_at old r ≡ Some bool_sort → sort_behind old (Binary And l r) ≡ Some bool_sort
 and_behind old l r h k = behind_binary old And l r BoolSort BoolSort BoolSort h k refl
@@ -124,11 +124,13 @@ fresh_one_is old new d e s t h k b is at_end same =
       later = later_push old (old ++ node ∷ []) node s behind refl;
       more = length old ∷ [];
       draft_is = refl;
-      nodes_are = refl; more_are = refl;
+      nodes_are = refl;
+      more_are = refl;
       are = (sort_added old node s behind, tt);
       below = below_push (d.next + 1) old node (below_up d.next (d.next + 1) old (omega arith) b) (self_below d.next);
       read = λ a. ap (λ v. v ∷ []) (value-new a old node);
-      fit = λ a f g. fits_push a old node f (and_first (has_sort (a d.next) s) true g) })))
+      fit = λ a f g. fits_push a old node f (and_first (has_sort (a d.next) s) true g);
+    })))
 
 pub fresh_none : (old : List TermNode) (d : Draft) → IsSome (sorts old) → IsTrue (below d.next old) → Fresh old d [] old d
 fresh_none old d h b =
@@ -158,23 +160,24 @@ fresh_then old mid new d m e xs ys h k =
     let end : m.next + length ys ≡ d.next + length (xs ++ ys) = omega (arith, n, next) in
     let mid_count : length mid ≡ length old + length xs = ap length h.nodes_are ∙ length-append old (row_of d.next xs) ∙ ap (λ i. length old + i) (row_count d.next xs) in
     let split : (a : ℕ → Value) → reads a d.next (length (xs ++ ys)) ≡ reads a d.next (length xs) ++ reads a m.next (length ys) = λ a.
-        ap (reads a d.next) n ∙ reads_append a d.next (length xs) (length ys) ∙ ap (λ i. reads a d.next (length xs) ++ reads a i (length ys)) (sym next) in
+    ap (reads a d.next) n ∙ reads_append a d.next (length xs) (length ys) ∙ ap (λ i. reads a d.next (length xs) ++ reads a i (length ys)) (sym next) in
     record {
       later = later_then old mid new h.later k.later;
       more = h.more ++ k.more;
       draft_is = k.draft_is ∙ ap (λ (x : Draft). record x { versions = m.versions ++ k.more; next = m.next + length ys }) h.draft_is
-                 ∙ same (m.versions ++ k.more) (m.next + length ys) (d.versions ++ (h.more ++ k.more)) (d.next + length (xs ++ ys)) (ap (λ x. x ++ k.more) vs ∙ append_assoc d.versions h.more k.more) end;
+          ∙ same (m.versions ++ k.more) (m.next + length ys) (d.versions ++ (h.more ++ k.more)) (d.next + length (xs ++ ys)) (ap (λ x. x ++ k.more) vs ∙ append_assoc d.versions h.more k.more) end;
       nodes_are = k.nodes_are ∙ ap (λ z. z ++ row_of m.next ys) h.nodes_are ∙ append_assoc old (row_of d.next xs) (row_of m.next ys)
           ∙ ap (λ r. old ++ r) (ap (λ i. row_of d.next xs ++ row_of i ys) next ∙ sym (row_append d.next xs ys));
       more_are = ap (λ z. z ++ k.more) h.more_are ∙ ap (λ z. from (length old) xs ++ z) (k.more_are ∙ ap (λ i. from i ys) mid_count) ∙ sym (from_append (length old) xs ys);
       are = are_append new h.more k.more xs ys (are_later mid new h.more xs k.later h.are) k.are;
       below = k.below;
       read = λ a. map-append (at (values a new)) h.more k.more ∙ ap (λ r. r ++ map (at (values a new)) k.more) (map_later mid new a h.more xs k.later h.are ∙ h.read a)
-               ∙ ap (λ r. reads a d.next (length xs) ++ r) (k.read a) ∙ sym (split a);
+          ∙ ap (λ r. reads a d.next (length xs) ++ r) (k.read a) ∙ sym (split a);
       fit = λ a f g.
-        let g2 : sorted_as (xs ++ ys) (reads a d.next (length xs) ++ reads a m.next (length ys)) ≡ true = sym (ap (sorted_as (xs ++ ys)) (split a)) ∙ g in
-        let l = length_reads a d.next (length xs) in
-        k.fit a (h.fit a f (sorts_left xs ys (reads a d.next (length xs)) (reads a m.next (length ys)) l g2)) (sorts_right xs ys (reads a d.next (length xs)) (reads a m.next (length ys)) l g2) }
+          let g2 : sorted_as (xs ++ ys) (reads a d.next (length xs) ++ reads a m.next (length ys)) ≡ true = sym (ap (sorted_as (xs ++ ys)) (split a)) ∙ g in
+          let l = length_reads a d.next (length xs) in
+          k.fit a (h.fit a f (sorts_left xs ys (reads a d.next (length xs)) (reads a m.next (length ys)) l g2)) (sorts_right xs ys (reads a d.next (length xs)) (reads a m.next (length ys)) l g2);
+    }
   where
     same : (vs : List ℕ) (i : ℕ) (ws : List ℕ) (j : ℕ) → vs ≡ ws → i ≡ j → ◌≡◌ {A = Draft} (record d { versions = vs; next = i }) (record d { versions = ws; next = j })
     same vs i ws j p q = cc
@@ -214,7 +217,8 @@ pub so_far_next : (old mid new : List TermNode) (d m e : Draft) (ss : List Sort)
     Fresh mid m (s ∷ []) new e → e.versions ≡ m.versions ++ t ∷ [] → us ≡ ts ++ t ∷ [] → FreshSoFar old d (take (i + 1) ss) new e us
 so_far_next old mid new d m e ss i s ts us t l is h k v u = record {
   fresh = fresh_next old mid new d m e ss i s l is h.fresh k;
-  versions = v ∙ ap (λ r. r ++ t ∷ []) h.versions ∙ append_assoc d.versions ts (t ∷ []) ∙ ap (λ r. d.versions ++ r) (sym u) }
+  versions = v ∙ ap (λ r. r ++ t ∷ []) h.versions ∙ append_assoc d.versions ts (t ∷ []) ∙ ap (λ r. d.versions ++ r) (sym u);
+}
 
 pub so_far_later : (old new : List TermNode) (d e : Draft) (ss : List Sort) (ts : List ℕ) → FreshSoFar old d ss new e ts → Later old new
 so_far_later old new d e ss ts h = h.fresh.later

@@ -39,18 +39,18 @@ goes_on flat q b c env over block values results s place t edges at edge h m =
     let r = closed_is (pass_all flat q block.cmds (alone env values results [])) s h in
     let go : State → Option (Option FlatBlock × State) = walk flat q (t ∷ m.path) m.places in
     let all : (vs : List Value) (rs : List Result) → walk flat q (b ∷ t ∷ m.path) (place ∷ m.places) (alone env ((values ++ m.values) ++ vs) ((results ++ m.results) ++ rs) []) ≡ Some (slice_get q.blocks c, alone over vs rs (s.calls ++ m.calls)) = λ vs rs.
-      let ws = m.values ++ vs in
-      let ts = m.results ++ rs in
-      let start : State = alone env (values ++ ws) (results ++ ts) [] in
-      ap (λ x. walk flat q (b ∷ t ∷ m.path) (place ∷ m.places) x) (same_state env ((values ++ m.values) ++ vs) (values ++ ws) ((results ++ m.results) ++ rs) (results ++ ts) [] [] (append_assoc values m.values vs) (append_assoc results m.results rs) refl)
-      ∙ ap (λ x. if x then option_and_then go (pass_all flat q (cmds_of (slice_get q.blocks b)) start) else None)
-          (edge_is (place_at (slice_get q.blocks b) place) t (ap (λ x. place_at x place) at ∙ edge))
-      ∙ ap (λ x. option_and_then go (pass_all flat q (cmds_of x) start)) at
-      ∙ ap (option_and_then go) (pass_all_frame flat q block.cmds ws ts [] (alone env values results []) s r.0)
-      ∙ ap go (same_state s.env (s.values ++ ws) (ws ++ []) (s.results ++ ts) (ts ++ []) s.calls (s.calls ++ [])
-          (ap (λ xs. xs ++ ws) r.1 ∙ sym (append-nil ws)) (ap (λ xs. xs ++ ts) r.2 ∙ sym (append-nil ts)) (sym (append-nil s.calls)))
-      ∙ walk_frame flat q (t ∷ m.path) m.places [] [] s.calls (alone s.env ws ts []) (alone over vs rs m.calls) (slice_get q.blocks c) (m.goes vs rs)
-      ∙ ap (λ (x : State). Some (slice_get q.blocks c, x)) (same_state over (vs ++ []) vs (rs ++ []) rs (s.calls ++ m.calls) (s.calls ++ m.calls) (append-nil vs) (append-nil rs) refl) in
+    let ws = m.values ++ vs in
+    let ts = m.results ++ rs in
+    let start : State = alone env (values ++ ws) (results ++ ts) [] in
+    ap (λ x. walk flat q (b ∷ t ∷ m.path) (place ∷ m.places) x) (same_state env ((values ++ m.values) ++ vs) (values ++ ws) ((results ++ m.results) ++ rs) (results ++ ts) [] [] (append_assoc values m.values vs) (append_assoc results m.results rs) refl)
+    ∙ ap (λ x. if x then option_and_then go (pass_all flat q (cmds_of (slice_get q.blocks b)) start) else None)
+    (edge_is (place_at (slice_get q.blocks b) place) t (ap (λ x. place_at x place) at ∙ edge))
+    ∙ ap (λ x. option_and_then go (pass_all flat q (cmds_of x) start)) at
+    ∙ ap (option_and_then go) (pass_all_frame flat q block.cmds ws ts [] (alone env values results []) s r.0)
+    ∙ ap go (same_state s.env (s.values ++ ws) (ws ++ []) (s.results ++ ts) (ts ++ []) s.calls (s.calls ++ [])
+    (ap (λ xs. xs ++ ws) r.1 ∙ sym (append-nil ws)) (ap (λ xs. xs ++ ts) r.2 ∙ sym (append-nil ts)) (sym (append-nil s.calls)))
+    ∙ walk_frame flat q (t ∷ m.path) m.places [] [] s.calls (alone s.env ws ts []) (alone over vs rs m.calls) (slice_get q.blocks c) (m.goes vs rs)
+    ∙ ap (λ (x : State). Some (slice_get q.blocks c, x)) (same_state over (vs ++ []) vs (rs ++ []) rs (s.calls ++ m.calls) (s.calls ++ m.calls) (append-nil vs) (append-nil rs) refl) in
     record { path = t ∷ m.path; places = place ∷ m.places; values = values ++ m.values; results = results ++ m.results; calls = s.calls ++ m.calls; goes = all; edges_are = ap (λ x. (b, place) ∷ x) m.edges_are }
 
 off_on : (b : Bool) → b ≡ false → b ≡ true → ⊥
@@ -135,8 +135,8 @@ by_next flat q d gs rest g before env s block (Goto (u ∷ ts)) j x k at next h 
     let es = before ++ fan true s.env (u ∷ ts) g.choices in
     let more = rest es f.to s.env (one_right before (fan true s.env (u ∷ ts) g.choices) (Some f.to) s.env k f.one) j x e on in
     subst (λ ps. Reaches flat q g.number env x.given.number x.env (ps ++ live_edges flat q d (take j gs) es)) (sym f.only)
-        (subst (λ p. Reaches flat q g.number env x.given.number x.env ((g.number, p) ∷ live_edges flat q d (take j gs) es)) (omega arith)
-            (goes_on flat q g.number x.given.number env x.env block g.values g.results s f.place f.to (live_edges flat q d (take j gs) es) at (ap (λ x. place_of x f.place) next ∙ f.at) h more))
+    (subst (λ p. Reaches flat q g.number env x.given.number x.env ((g.number, p) ∷ live_edges flat q d (take j gs) es)) (omega arith)
+    (goes_on flat q g.number x.given.number env x.env block g.values g.results s f.place f.to (live_edges flat q d (take j gs) es) at (ap (λ x. place_of x f.place) next ∙ f.at) h more))
 
 by_state : (flat : Limited) (q : FlatProc) (d : Env) (gs : List Given) → Rest flat q d gs → (g : Given) (before : List Edge) (env : Env) (o : Option State) (b : Option FlatBlock) (j : ℕ) (x : Seen) →
     Dead before → slice_get q.blocks g.number ≡ b → through flat q g env ≡ o →
@@ -148,38 +148,38 @@ by_state flat q d gs rest g before env (Some s) None j x k at h e on =
     absurd (off_on x.on (dead_seen flat q d gs (before ++ []) j x (dead_append before [] k tt) e) on)
 by_state flat q d gs rest g before env (Some s) (Some block) j x k at h e on =
     by_next flat q d gs rest g before env s block block.next j x k at refl
-        (sym (ap (λ x. closed (pass_all flat q (cmds_of x) (alone env g.values g.results []))) at) ∙ h) e on
+    (sym (ap (λ x. closed (pass_all flat q (cmds_of x) (alone env g.values g.results []))) at) ∙ h) e on
 
 here : (flat : Limited) (q : FlatProc) (d : Env) (gs : List Given) → Rest flat q d gs → (g : Given) (es : List Edge) (env : Env) (j : ℕ) (x : Seen) → One es (Some g.number) env →
     slice_get (seen flat q d (g ∷ gs) es) j ≡ Some x → x.on ≡ true → Reaches flat q g.number env x.given.number x.env (live_edges flat q d (take j (g ∷ gs)) es)
 here flat q d gs rest g es env zero x one h on =
     let is : ◌≡◌ {A = Seen} (record { given = g; on = reached g.number es; env = entered g.number d es }) x = some_seen (record { given = g; on = reached g.number es; env = entered g.number d es }) x h in
     subst (λ (y : Seen). Reaches flat q g.number env y.given.number y.env []) is
-        (subst (λ v. Reaches flat q g.number env g.number v []) (sym (one_entered g.number d es env one)) (stays flat q g.number env))
+    (subst (λ v. Reaches flat q g.number env g.number v []) (sym (one_entered g.number d es env one)) (stays flat q g.number env))
 here flat q d gs rest g es env (suc j) x one h on =
     let before = others g.number es in
     let block = slice_get q.blocks g.number in
     let P : Env → Bool → Type 0 = λ v r. slice_get (seen flat q d gs (before ++ passed (through flat q g v) r block d g.choices)) j ≡ Some x →
-        Reaches flat q g.number env x.given.number x.env (edges_out g.number (through flat q g v) r block g.choices ++ live_edges flat q d (take j gs) (before ++ passed (through flat q g v) r block d g.choices)) in
+    Reaches flat q g.number env x.given.number x.env (edges_out g.number (through flat q g v) r block g.choices ++ live_edges flat q d (take j gs) (before ++ passed (through flat q g v) r block d g.choices)) in
     subst (λ r. P (entered g.number d es) r) (sym (one_reached g.number es env one))
-        (subst (λ v. P v true) (sym (one_entered g.number d es env one))
-            (λ e. by_state flat q d gs rest g before env (through flat q g env) block j x (one_dead g.number es env one) refl refl e on)) h
+    (subst (λ v. P v true) (sym (one_entered g.number d es env one))
+    (λ e. by_state flat q d gs rest g before env (through flat q g env) block j x (one_dead g.number es env one) refl refl e on)) h
 
 by_number : (flat : Limited) (q : FlatProc) (d : Env) (gs : List Given) → Rest flat q d gs → (g : Given) (es : List Edge) (b : ℕ) (env : Env) (y : Bool) (j : ℕ) (x : Seen) → nat_eq b g.number ≡ y → One es (Some b) env →
     slice_get (seen flat q d (g ∷ gs) es) j ≡ Some x → x.on ≡ true → Reaches flat q b env x.given.number x.env (live_edges flat q d (take j (g ∷ gs)) es)
 by_number flat q d gs rest g es b env true j x f one h on =
     let same = number_is b g.number f in
     subst (λ n. Reaches flat q n env x.given.number x.env (live_edges flat q d (take j (g ∷ gs)) es)) same
-        (here flat q d gs rest g es env j x (subst (λ n. One es (Some n) env) (sym same) one) h on)
+    (here flat q d gs rest g es env j x (subst (λ n. One es (Some n) env) (sym same) one) h on)
 by_number flat q d gs rest g es b env false zero x f one h on =
     let is : ◌≡◌ {A = Seen} (record { given = g; on = reached g.number es; env = entered g.number d es }) x = some_seen (record { given = g; on = reached g.number es; env = entered g.number d es }) x h in
     absurd (off_on x.on (ap (λ (y : Seen). y.on) (sym is) ∙ one_unreached g.number es (Some b) env f one) on)
 by_number flat q d gs rest g es b env false (suc j) x f one h on =
     let off : edges_out g.number (through flat q g (entered g.number d es)) (reached g.number es) (slice_get q.blocks g.number) g.choices ≡ [] =
-        ap (λ r. edges_out g.number (through flat q g (entered g.number d es)) r (slice_get q.blocks g.number) g.choices) (one_unreached g.number es (Some b) env f one)
-        ∙ edges_off g.number (through flat q g (entered g.number d es)) (slice_get q.blocks g.number) g.choices in
+    ap (λ r. edges_out g.number (through flat q g (entered g.number d es)) r (slice_get q.blocks g.number) g.choices) (one_unreached g.number es (Some b) env f one)
+    ∙ edges_off g.number (through flat q g (entered g.number d es)) (slice_get q.blocks g.number) g.choices in
     subst (λ ps. Reaches flat q b env x.given.number x.env (ps ++ live_edges flat q d (take j gs) (step flat q d g es))) (sym off)
-        (rest (step flat q d g es) b env (end_step flat q d g es (Some b) env f one) j x h on)
+    (rest (step flat q d g es) b env (end_step flat q d g es (Some b) env f one) j x h on)
 
 -- each block that is reached is reached by a path whose edges are those passed before it
 pub reach : (flat : Limited) (q : FlatProc) (d : Env) (gs : List Given) (es : List Edge) (b : ℕ) (env : Env) → One es (Some b) env → (j : ℕ) (x : Seen) → slice_get (seen flat q d gs es) j ≡ Some x → x.on ≡ true →

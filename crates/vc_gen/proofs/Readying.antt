@@ -27,6 +27,7 @@ pub passive_ready : SortedFit → ProcsAreSorted → OrderedAreThere → Passive
 passive_ready fit sorted there = λ flat limits n q p is at made.
     let h = sorted flat limits n q is at in
     let proc : IsFlatProc flat q = subst (IsFlatProc flat) (index_is flat.procs n q at) (is.procs n q (slice_get_within flat.procs n q at)) in
-    let t = there (limited flat limits) q made.order h (some_block flat q proc) made.ordered in
-    (subst PassiveFits (sym made.is) (fit (limited flat limits) q made.order h),
-     record { onward = made.ordered.onward; first = t.0; all = λ m b e. made.ordered.every m (slice_get_within q.blocks m b e); there = t.1 })
+    let t = there (limited flat limits) q made.order h (some_block flat q proc) made.ordered in (
+      subst PassiveFits (sym made.is) (fit (limited flat limits) q made.order h),
+      record { onward = made.ordered.onward; first = t.0; all = λ m b e. made.ordered.every m (slice_get_within q.blocks m b e); there = t.1 },
+    )

@@ -104,11 +104,20 @@ fail_re a b (Call x args outs) s p n calls h =
 pub fails_again : (flat : Limited) (q : FlatProc) (track : Track) (begin : State) (results : List Result) (calls : List Request) (proc number : ℕ) (a b : ℕ) → LocalFails flat q track begin results calls proc number →
     (p n : ℕ) × LocalFails flat q track begin (map (recast a b) results) calls p n
 fails_again flat q track begin results calls proc number a b h =
-    let z = fail_re a b h.at h.over proc number calls h.fails in
-    (z.proc, z.number, record {
-      last = h.last; arrived = re a b h.arrived; before = h.before; at = h.at; after = h.after; over = re a b h.over;
-      walks = walk_re flat q a b track.path track.places (record begin { results = results }) (Some h.last) h.arrived h.walks;
-      splits = h.splits;
-      passes = all_re flat q a b h.before h.arrived h.over h.passes;
-      fails = z.is;
-      taken = h.taken })
+    let z = fail_re a b h.at h.over proc number calls h.fails in (
+      z.proc,
+      z.number,
+      record {
+        last = h.last;
+        arrived = re a b h.arrived;
+        before = h.before;
+        at = h.at;
+        after = h.after;
+        over = re a b h.over;
+        walks = walk_re flat q a b track.path track.places (record begin { results = results }) (Some h.last) h.arrived h.walks;
+        splits = h.splits;
+        passes = all_re flat q a b h.before h.arrived h.over h.passes;
+        fails = z.is;
+        taken = h.taken;
+      },
+    )

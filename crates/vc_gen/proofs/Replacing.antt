@@ -64,28 +64,31 @@ put found made x rest whole h k = ap (λ r. r ++ rest) h ∙ append_assoc found 
 pub behind_new : (ms : List Bool) (xs ys : List ℕ) (i j x : ℕ) (found made : List ℕ) → i < length xs → slice_index_or ms i false ≡ true → j < length ys → x ≡ slice_index ys j → made ≡ found ++ x ∷ [] → Behind ms xs ys i j found → Behind ms xs ys (i + 1) (j + 1) made
 behind_new ms xs ys i j x found made l m n is h (k, b) =
     let one : i + 1 ≡ suc i = omega arith in
-    let two : j + 1 ≡ suc j = omega arith in
-    (put found made x (left ms xs ys (i + 1) (j + 1)) (replaced ms xs ys) h
-        (ap (λ z. found ++ z ∷ left ms xs ys (i + 1) (j + 1)) is ∙ ap (λ z. found ++ slice_index ys j ∷ left ms xs ys z (j + 1)) one ∙ ap (λ z. found ++ slice_index ys j ∷ left ms xs ys (suc i) z) two
-         ∙ ap (λ z. found ++ z) (sym (take_new ms xs ys i j l m n)) ∙ k),
-     omega (arith, n))
+    let two : j + 1 ≡ suc j = omega arith in (
+      put found made x (left ms xs ys (i + 1) (j + 1)) (replaced ms xs ys) h
+          (ap (λ z. found ++ z ∷ left ms xs ys (i + 1) (j + 1)) is ∙ ap (λ z. found ++ slice_index ys j ∷ left ms xs ys z (j + 1)) one ∙ ap (λ z. found ++ slice_index ys j ∷ left ms xs ys (suc i) z) two
+          ∙ ap (λ z. found ++ z) (sym (take_new ms xs ys i j l m n)) ∙ k),
+      omega (arith, n),
+    )
 
 pub behind_old : (ms : List Bool) (xs ys : List ℕ) (i j x : ℕ) (found made : List ℕ) → i < length xs → slice_index_or ms i false ≡ false → x ≡ slice_index xs i → made ≡ found ++ x ∷ [] → Behind ms xs ys i j found → Behind ms xs ys (i + 1) j made
 behind_old ms xs ys i j x found made l m is h (k, b) =
-    let one : i + 1 ≡ suc i = omega arith in
-    (put found made x (left ms xs ys (i + 1) j) (replaced ms xs ys) h
-        (ap (λ z. found ++ z ∷ left ms xs ys (i + 1) j) is ∙ ap (λ z. found ++ slice_index xs i ∷ left ms xs ys z j) one ∙ ap (λ z. found ++ z) (sym (take_old ms xs (drop j ys) i l m)) ∙ k),
-     b)
+    let one : i + 1 ≡ suc i = omega arith in (
+      put found made x (left ms xs ys (i + 1) j) (replaced ms xs ys) h
+          (ap (λ z. found ++ z ∷ left ms xs ys (i + 1) j) is ∙ ap (λ z. found ++ slice_index xs i ∷ left ms xs ys z j) one ∙ ap (λ z. found ++ z) (sym (take_old ms xs (drop j ys) i l m)) ∙ k),
+      b,
+    )
 
 pub behind_spent : (ms : List Bool) (xs ys : List ℕ) (i j x : ℕ) (found made : List ℕ) → i < length xs → length ys ≤ j → x ≡ slice_index xs i → made ≡ found ++ x ∷ [] → Behind ms xs ys i j found → Behind ms xs ys (i + 1) j made
 behind_spent ms xs ys i j x found made l n is h (k, b) =
     let one : i + 1 ≡ suc i = omega arith in
     let none = none_left ys j n in
     let rest : left ms xs ys i j ≡ slice_index xs i ∷ left ms xs ys (suc i) j =
-        ap (replaced (drop i ms) (drop i xs)) none ∙ take_spent ms xs i l ∙ ap (λ z. slice_index xs i ∷ replaced (drop (suc i) ms) (drop (suc i) xs) z) (sym none) in
-    (put found made x (left ms xs ys (i + 1) j) (replaced ms xs ys) h
-        (ap (λ z. found ++ z ∷ left ms xs ys (i + 1) j) is ∙ ap (λ z. found ++ slice_index xs i ∷ left ms xs ys z j) one ∙ ap (λ z. found ++ z) (sym rest) ∙ k),
-     b)
+    ap (replaced (drop i ms) (drop i xs)) none ∙ take_spent ms xs i l ∙ ap (λ z. slice_index xs i ∷ replaced (drop (suc i) ms) (drop (suc i) xs) z) (sym none) in (
+      put found made x (left ms xs ys (i + 1) j) (replaced ms xs ys) h
+          (ap (λ z. found ++ z ∷ left ms xs ys (i + 1) j) is ∙ ap (λ z. found ++ slice_index xs i ∷ left ms xs ys z j) one ∙ ap (λ z. found ++ z) (sym rest) ∙ k),
+      b,
+    )
 
 pub behind_whole : (ms : List Bool) (xs ys : List ℕ) (i j : ℕ) (found : List ℕ) → length xs ≤ i → Behind ms xs ys i j found → found ≡ replaced ms xs ys
 behind_whole ms xs ys i j found l (k, b) =

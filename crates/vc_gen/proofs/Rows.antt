@@ -112,21 +112,25 @@ put_row flat q L count n ns p plan mine fit keeps unsettled behind rest =
       vs = mine ++ rest.vs;
       sorts = fits_both (sorts_of_block flat q n) (sorts_of_blocks flat q ns) mine rest.vs fit rest.sorts;
       agrees = λ a k h.
-        let two = follows_split a k mine rest.vs h in
-        (keeps a k two.0, rest.agrees a (k + length (sorts_of_block flat q n)) (subst (λ (i : ℕ). Follows a (k + i) rest.vs) size two.1));
+          let two = follows_split a k mine rest.vs h in
+          (keeps a k two.0, rest.agrees a (k + length (sorts_of_block flat q n)) (subst (λ (i : ℕ). Follows a (k + i) rest.vs) size two.1));
       opens_are = λ path o. (mine, rest.vs, refl, size, (λ h. unsettled (o.0 h)), rest.opens_are path o.1);
-      stops_are = at_place size }
+      stops_are = at_place size;
+    }
   where
     at_place : length mine ≡ length (sorts_of_block flat q n) → (i : ℕ) → slice_get (p ∷ plan) i ≡ Some Stop → OpenAt flat q (n ∷ ns) i count (mine ++ rest.vs)
     at_place size zero h = let e : p ≡ Stop = cc in record { pre = []; mine = mine; post = rest.vs; row_is = refl; before = refl; behind = behind e }
     at_place size (suc i) h =
         let z = rest.stops_are i h in
         record {
-          pre = mine ++ z.pre; mine = z.mine; post = z.post;
+          pre = mine ++ z.pre;
+          mine = z.mine;
+          post = z.post;
           row_is = ap (λ r. mine ++ r) z.row_is ∙ sym (append_assoc mine z.pre (z.mine ++ z.post));
           before = length-append mine z.pre ∙ ap (λ j. j + length z.pre) size ∙ ap (λ j. length (sorts_of_block flat q n) + j) z.before
               ∙ sym (length-append (sorts_of_block flat q n) (sorts_of_blocks flat q (take i ns)));
-          behind = z.behind }
+          behind = z.behind;
+        }
 
 given_here : (flat : Limited) (q : FlatProc) (n : ℕ) (g : Given) (num : g.number ≡ n) (sh : Shaped flat q g) (a : ℕ → Value) (k : ℕ) → Follows a k (map settled_value (sh.ins ++ bits g.choices)) → given_at flat q a k n ≡ g
 given_here flat q n g num sh a k h = ap (given_at flat q a k) (sym num) ∙ given_read flat q g sh a k (settled_read a k (sh.ins ++ bits g.choices) h)
@@ -149,9 +153,9 @@ laid_plan flat q L T count stop (n ∷ ns) (Any ∷ ps) (h, hs) =
 laid_plan flat q L T count stop (n ∷ ns) (Is g ∷ ps) ((num, sh), hs) =
     let own = sh.ins ++ bits g.choices in
     let own_sorts : sorted_as (sorts_of_block flat q g.number) own ≡ true =
-        sorts_both (chosen (items_at flat q g.number)) (replicate (choices_at q g.number) bool_sort) sh.ins (bits g.choices) sh.sorts (bits_have g.choices (choices_at q g.number) sh.count) in
+    sorts_both (chosen (items_at flat q g.number)) (replicate (choices_at q g.number) bool_sort) sh.ins (bits g.choices) sh.sorts (bits_have g.choices (choices_at q g.number) sh.count) in
     put_row flat q L count n ns (Is g) ps (map settled_value own) (subst (λ (i : ℕ). RowFits (sorts_of_block flat q i) (map settled_value own)) num (settled_fit (sorts_of_block flat q g.number) own own_sorts))
-        (λ a k f. given_here flat q n g num sh a k f) (λ e. absurd (other g e)) (λ e. absurd (clash g e)) (laid_plan flat q L T count stop ns ps hs)
+    (λ a k f. given_here flat q n g num sh a k f) (λ e. absurd (other g e)) (λ e. absurd (clash g e)) (laid_plan flat q L T count stop ns ps hs)
   where
     other : (g : Given) → Is g ≡ Any → ⊥
     other g e = cc

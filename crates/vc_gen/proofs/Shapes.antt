@@ -45,11 +45,12 @@ takes_append xs ys vs ws rs ts h k = record {
   ins = h.ins ++ k.ins;
   sorts = ap (λ ss. sorted_as ss (h.ins ++ k.ins)) (chosen_append xs ys) ∙ sorts_both (chosen xs) (chosen ys) h.ins k.ins h.sorts k.sorts;
   values_are = λ zs more.
-    ap (λ i. values_in i ((h.ins ++ k.ins) ++ more)) (append_assoc xs ys zs) ∙ ap (values_in (xs ++ (ys ++ zs))) (append_assoc h.ins k.ins more) ∙ h.values_are (ys ++ zs) (k.ins ++ more)
-    ∙ ap (λ r. vs ++ r) (k.values_are zs more) ∙ sym (append_assoc vs ws (values_in zs more));
+      ap (λ i. values_in i ((h.ins ++ k.ins) ++ more)) (append_assoc xs ys zs) ∙ ap (values_in (xs ++ (ys ++ zs))) (append_assoc h.ins k.ins more) ∙ h.values_are (ys ++ zs) (k.ins ++ more)
+      ∙ ap (λ r. vs ++ r) (k.values_are zs more) ∙ sym (append_assoc vs ws (values_in zs more));
   results_are = λ zs more.
-    ap (λ i. results_in i ((h.ins ++ k.ins) ++ more)) (append_assoc xs ys zs) ∙ ap (results_in (xs ++ (ys ++ zs))) (append_assoc h.ins k.ins more) ∙ h.results_are (ys ++ zs) (k.ins ++ more)
-    ∙ ap (λ r. rs ++ r) (k.results_are zs more) ∙ sym (append_assoc rs ts (results_in zs more)) }
+      ap (λ i. results_in i ((h.ins ++ k.ins) ++ more)) (append_assoc xs ys zs) ∙ ap (results_in (xs ++ (ys ++ zs))) (append_assoc h.ins k.ins more) ∙ h.results_are (ys ++ zs) (k.ins ++ more)
+      ∙ ap (λ r. rs ++ r) (k.results_are zs more) ∙ sym (append_assoc rs ts (results_in zs more));
+}
 
 takes_lets : (cur : Cur) (k : ℕ) (pairs : List (Var × List ExprNode)) → Takes (lets cur k pairs) [] []
 takes_lets cur k [] = takes_none
@@ -77,20 +78,24 @@ nothing s m items e t = record { values = []; results = []; values_are = ap (λ 
 
 part_append : (s m t : State) (xs ys : List Item) → Part s m xs → Part m t ys → Part s t (xs ++ ys)
 part_append s m t xs ys h k = record {
-  values = h.values ++ k.values; results = h.results ++ k.results;
+  values = h.values ++ k.values;
+  results = h.results ++ k.results;
   values_are = h.values_are ∙ ap (λ r. h.values ++ r) k.values_are ∙ sym (append_assoc h.values k.values t.values);
   results_are = h.results_are ∙ ap (λ r. h.results ++ r) k.results_are ∙ sym (append_assoc h.results k.results t.results);
-  takes = takes_append xs ys h.values k.values h.results k.results h.takes k.takes }
+  takes = takes_append xs ys h.values k.values h.results k.results h.takes k.takes;
+}
 
 havoc_one : (flat : Limited) (q : FlatProc) (x : Var) (k : ℕ) (s m : State) (values : List Value) → s.values ≡ values → havoc_with flat q x s values ≡ Some m → Part s m (Free k (sort_or (sort_of flat q x)) ∷ [])
 havoc_one flat q x k s m [] are h = cc
 havoc_one flat q x k s m (v ∷ vs) are h =
     let c = choose_some (is_value_of (sort_of flat q x) v) (alone (write s.env x v) vs s.results s.calls) m h in
     record {
-      values = v ∷ []; results = [];
+      values = v ∷ [];
+      results = [];
       values_are = are ∙ ap (λ (y : State). v ∷ y.values) c.1;
       results_are = ap (λ (y : State). y.results) c.1;
-      takes = takes_free k (sort_or (sort_of flat q x)) v (sort_or_fits (sort_of flat q x) v c.0) }
+      takes = takes_free k (sort_or (sort_of flat q x)) v (sort_or_fits (sort_of flat q x) v c.0);
+    }
 
 havoc_part : (flat : Limited) (q : FlatProc) (k : ℕ) (xs : List Var) (s m : State) → havoc flat q xs s ≡ Some m → Part s m (frees flat q k xs)
 havoc_part flat q k [] s m h = let e : s ≡ m = cc in nothing s m [] e takes_none
@@ -127,11 +132,12 @@ takes_site p f args before outs changes after os gs h k =
       sorts = ap (λ (ss : List Sort). sorted_as ss (off ∷ (os ++ gs))) (append-nil (bool_sort ∷ (outs ++ after))) ∙ sorts_both outs after os gs h k;
       values_are = λ ys more. ap (values_in ys) (drop_front (off ∷ (os ++ gs)) more (length (bool_sort ∷ (outs ++ after))) all);
       results_are = λ ys more.
-        ap (λ x. Ended x (take (length after) (drop (length outs) ((os ++ gs) ++ more))) ∷ results_in ys (drop (length (bool_sort ∷ (outs ++ after))) ((off ∷ (os ++ gs)) ++ more)))
-            (ap (take (length outs)) (append_assoc os gs more) ∙ take_front os (gs ++ more) (length outs) n)
-        ∙ ap (λ x. Ended os x ∷ results_in ys (drop (length (bool_sort ∷ (outs ++ after))) ((off ∷ (os ++ gs)) ++ more)))
-            (ap (λ z. take (length after) (drop (length outs) z)) (append_assoc os gs more) ∙ ap (take (length after)) (drop_front os (gs ++ more) (length outs) n) ∙ take_front gs more (length after) m)
-        ∙ ap (λ x. Ended os gs ∷ results_in ys x) (drop_front (off ∷ (os ++ gs)) more (length (bool_sort ∷ (outs ++ after))) all) }
+          ap (λ x. Ended x (take (length after) (drop (length outs) ((os ++ gs) ++ more))) ∷ results_in ys (drop (length (bool_sort ∷ (outs ++ after))) ((off ∷ (os ++ gs)) ++ more)))
+          (ap (take (length outs)) (append_assoc os gs more) ∙ take_front os (gs ++ more) (length outs) n)
+          ∙ ap (λ x. Ended os x ∷ results_in ys (drop (length (bool_sort ∷ (outs ++ after))) ((off ∷ (os ++ gs)) ++ more)))
+          (ap (λ z. take (length after) (drop (length outs) z)) (append_assoc os gs more) ∙ ap (take (length after)) (drop_front os (gs ++ more) (length outs) n) ∙ take_front gs more (length after) m)
+          ∙ ap (λ x. Ended os gs ∷ results_in ys x) (drop_front (off ∷ (os ++ gs)) more (length (bool_sort ∷ (outs ++ after))) all);
+    }
 
 call_part : (flat : Limited) (s m : State) (p k : ℕ) (args : List (List ExprNode)) (own : List (List ExprNode)) (outs : List Var) (before : List ℕ) (results : List Result) → s.results ≡ results → come_back flat s (request s p args) outs results ≡ Some m →
     Part s m (Site p k own before (callee_outs flat p) (callee_changes flat p) (changed_sorts flat p) ∷ [])
@@ -140,10 +146,12 @@ call_part flat s m p k args own outs before (Broken a b ∷ rs) are h = cc
 call_part flat s m p k args own outs before (Ended os gs ∷ rs) are h =
     let c = choose_some (result_fits flat p os gs) (alone (write_all (after_call flat p s.env gs) outs os) s.values rs (s.calls ++ request s p args ∷ [])) m h in
     record {
-      values = []; results = Ended os gs ∷ [];
+      values = [];
+      results = Ended os gs ∷ [];
       values_are = ap (λ (y : State). y.values) c.1;
       results_are = are ∙ ap (λ (y : State). Ended os gs ∷ y.results) c.1;
-      takes = takes_site p k own before (callee_outs flat p) (callee_changes flat p) (changed_sorts flat p) os gs (and_first (sorted_as (callee_outs flat p) os) (sorted_as (changed_sorts flat p) gs) c.0) (and_second (sorted_as (callee_outs flat p) os) (sorted_as (changed_sorts flat p) gs) c.0) }
+      takes = takes_site p k own before (callee_outs flat p) (callee_changes flat p) (changed_sorts flat p) os gs (and_first (sorted_as (callee_outs flat p) os) (sorted_as (changed_sorts flat p) gs) c.0) (and_second (sorted_as (callee_outs flat p) os) (sorted_as (changed_sorts flat p) gs) c.0);
+    }
 
 pub pass_part : (flat : Limited) (q : FlatProc) (cur : Cur) (at k : ℕ) (c : FlatCmd) (s m : State) → pass flat q c s ≡ Some m → Part s m (items_of flat q cur at k c)
 pass_part flat q cur at k (Assign pairs) s m h =
@@ -163,7 +171,7 @@ pass_all_part flat q cur at k [] s m h = let e : s ≡ m = cc in nothing s m [] 
 pass_all_part flat q cur at k (c ∷ cmds) s m h =
     let t = and_then_some (pass_all flat q cmds) (pass flat q c s) m h in
     part_append s t.0 m (items_of flat q cur at k c) (items_all flat q (cur_after flat cur k c) (at + 1) (next_after flat k c) cmds)
-        (pass_part flat q cur at k c s t.0 t.1) (pass_all_part flat q (cur_after flat cur k c) (at + 1) (next_after flat k c) cmds t.0 m t.2)
+    (pass_part flat q cur at k c s t.0 t.1) (pass_all_part flat q (cur_after flat cur k c) (at + 1) (next_after flat k c) cmds t.0 m t.2)
 
 -- the values of a passed block
 pub shaped_used : (flat : Limited) (q : FlatProc) → Fine flat q (Shaped flat q)
@@ -178,4 +186,5 @@ shaped_used flat q n block s m u cs at count =
       sorts = ap (λ (i : List Item). sorted_as (chosen i) t.ins) items_are ∙ t.sorts;
       values_are = ap (λ (i : List Item). values_in i t.ins) items_are ∙ ap (λ i. values_in i t.ins) (sym (append-nil items)) ∙ ap (values_in (items ++ [])) (sym (append-nil t.ins)) ∙ t.values_are [] [] ∙ sym part.values_are;
       results_are = ap (λ (i : List Item). results_in i t.ins) items_are ∙ ap (λ i. results_in i t.ins) (sym (append-nil items)) ∙ ap (results_in (items ++ [])) (sym (append-nil t.ins)) ∙ t.results_are [] [] ∙ sym part.results_are;
-      count = count ∙ ap (λ (b : FlatBlock). choice_count b.next) (sym here) }
+      count = count ∙ ap (λ (b : FlatBlock). choice_count b.next) (sym here);
+    }

@@ -53,10 +53,24 @@ returns flat q b block env values results s at next h =
     let start : State = record { env = env; values = values; results = results; calls = [] } in
     let r = closed_is (pass_all flat q block.cmds start) s h in
     record {
-      path = []; places = []; values = values; results = results; calls = s.calls;
+      path = [];
+      places = [];
+      values = values;
+      results = results;
+      calls = s.calls;
       run = record {
-        last = block; arrived = start; over = s; walks = ap (λ x. Some (x, start)) at; passes = r.0; returns = next; taken = (r.1, r.2);
-        calls_are = refl; outs_are = refl; globals_are = refl } }
+        last = block;
+        arrived = start;
+        over = s;
+        walks = ap (λ x. Some (x, start)) at;
+        passes = r.0;
+        returns = next;
+        taken = (r.1, r.2);
+        calls_are = refl;
+        outs_are = refl;
+        globals_are = refl;
+      };
+    }
 
 -- the edge is one of the walk
 pub edge_is : (o : Option ℕ) (t : ℕ) → o ≡ Some t → is_target o t ≡ true
@@ -79,25 +93,33 @@ goes flat q b block env over values results s place t at edge h more =
     let next : State = record { env = s.env; values = more.values; results = more.results; calls = [] } in
     let p = pass_all_frame flat q block.cmds more.values more.results [] (record { env = env; values = values; results = results; calls = [] }) s r.0 in
     let same : framed more.values more.results [] s ≡ framed [] [] s.calls next =
-        same_state s.env (s.values ++ more.values) (more.values ++ []) (s.results ++ more.results) (more.results ++ []) s.calls (s.calls ++ [])
-            (ap (λ xs. xs ++ more.values) r.1 ∙ sym (append-nil more.values)) (ap (λ xs. xs ++ more.results) r.2 ∙ sym (append-nil more.results)) (sym (append-nil s.calls)) in
+    same_state s.env (s.values ++ more.values) (more.values ++ []) (s.results ++ more.results) (more.results ++ []) s.calls (s.calls ++ [])
+    (ap (λ xs. xs ++ more.values) r.1 ∙ sym (append-nil more.values)) (ap (λ xs. xs ++ more.results) r.2 ∙ sym (append-nil more.results)) (sym (append-nil s.calls)) in
     let w = walk_frame flat q (t ∷ more.path) more.places [] [] s.calls next more.run.arrived (Some more.run.last) more.run.walks in
     record {
-      path = t ∷ more.path; places = place ∷ more.places; values = values ++ more.values; results = results ++ more.results; calls = s.calls ++ more.calls;
+      path = t ∷ more.path;
+      places = place ∷ more.places;
+      values = values ++ more.values;
+      results = results ++ more.results;
+      calls = s.calls ++ more.calls;
       run = record {
-        last = more.run.last; arrived = framed [] [] s.calls more.run.arrived; over = framed [] [] s.calls more.run.over;
+        last = more.run.last;
+        arrived = framed [] [] s.calls more.run.arrived;
+        over = framed [] [] s.calls more.run.over;
         walks =
-          ap (λ x. if x then option_and_then (walk flat q (t ∷ more.path) more.places) (pass_all flat q (cmds_of (slice_get q.blocks b)) start) else None)
+            ap (λ x. if x then option_and_then (walk flat q (t ∷ more.path) more.places) (pass_all flat q (cmds_of (slice_get q.blocks b)) start) else None)
             (edge_is (place_at (slice_get q.blocks b) place) t (ap (λ x. place_at x place) at ∙ edge))
-          ∙ ap (λ x. option_and_then (walk flat q (t ∷ more.path) more.places) (pass_all flat q (cmds_of x) start)) at
-          ∙ ap (option_and_then (walk flat q (t ∷ more.path) more.places)) (p ∙ ap (λ x. Some x) same)
-          ∙ w;
+            ∙ ap (λ x. option_and_then (walk flat q (t ∷ more.path) more.places) (pass_all flat q (cmds_of x) start)) at
+            ∙ ap (option_and_then (walk flat q (t ∷ more.path) more.places)) (p ∙ ap (λ x. Some x) same)
+            ∙ w;
         passes = pass_all_frame flat q more.run.last.cmds [] [] s.calls more.run.arrived more.run.over more.run.passes;
         returns = more.run.returns;
         taken = (append-nil more.run.over.values ∙ more.run.taken.0, append-nil more.run.over.results ∙ more.run.taken.1);
         calls_are = ap (λ x. s.calls ++ x) more.run.calls_are;
         outs_are = more.run.outs_are;
-        globals_are = more.run.globals_are } }
+        globals_are = more.run.globals_are;
+      };
+    }
 
 pub no_end : (b : Bool) → b ≡ false → b ≡ true → ⊥
 no_end b f t = cc
@@ -115,16 +137,16 @@ by_next : (flat : Limited) (q : FlatProc) (d : Env) (gs : List Given) → Rest f
     Going flat q g.number env (end_env d (fold flat q d gs (before ++ out_next next true s.env g.choices)))
 by_next flat q d gs rest g before env s block Return k at next h e =
     let one = end_fold flat q d gs (before ++ out_next Return true s.env g.choices) s.env
-        (one_right before (out_next Return true s.env g.choices) None s.env k (inl (refl, refl, refl, tt))) in
+    (one_right before (out_next Return true s.env g.choices) None s.env k (inl (refl, refl, refl, tt))) in
     subst (λ x. Going flat q g.number env x) (sym (one_end_env d (fold flat q d gs (before ++ out_next Return true s.env g.choices)) s.env one))
-        (returns flat q g.number block env g.values g.results s at next h)
+    (returns flat q g.number block env g.values g.results s at next h)
 by_next flat q d gs rest g before env s block (Goto []) k at next h e =
     absurd (dead_end flat q d gs (before ++ []) (dead_append before [] k tt) e)
 by_next flat q d gs rest g before env s block (Goto (u ∷ ts)) k at next h e =
     let f = one_fan s.env u ts g.choices in
     goes flat q g.number block env (end_env d (fold flat q d gs (before ++ fan true s.env (u ∷ ts) g.choices))) g.values g.results s f.0 f.1 at
-        (ap (λ x. place_of x f.0) next ∙ f.2) h
-        (rest (before ++ fan true s.env (u ∷ ts) g.choices) f.1 s.env (one_right before (fan true s.env (u ∷ ts) g.choices) (Some f.1) s.env k f.3) e)
+    (ap (λ x. place_of x f.0) next ∙ f.2) h
+    (rest (before ++ fan true s.env (u ∷ ts) g.choices) f.1 s.env (one_right before (fan true s.env (u ∷ ts) g.choices) (Some f.1) s.env k f.3) e)
 
 by_state : (flat : Limited) (q : FlatProc) (d : Env) (gs : List Given) → Rest flat q d gs → (g : Given) (before : List Edge) (env : Env) (o : Option State) (b : Option FlatBlock) →
     Dead before → slice_get q.blocks g.number ≡ b → through flat q g env ≡ o →
@@ -136,17 +158,17 @@ by_state flat q d gs rest g before env (Some s) None k at h e =
     absurd (dead_end flat q d gs (before ++ []) (dead_append before [] k tt) e)
 by_state flat q d gs rest g before env (Some s) (Some block) k at h e =
     by_next flat q d gs rest g before env s block block.next k at refl
-        (sym (ap (λ x. closed (pass_all flat q (cmds_of x) (record { env = env; values = g.values; results = g.results; calls = [] }))) at) ∙ h) e
+    (sym (ap (λ x. closed (pass_all flat q (cmds_of x) (record { env = env; values = g.values; results = g.results; calls = [] }))) at) ∙ h) e
 
 here : (flat : Limited) (q : FlatProc) (d : Env) (gs : List Given) → Rest flat q d gs → (g : Given) (es : List Edge) (env : Env) → One es (Some g.number) env →
     ends (fold flat q d (g ∷ gs) es) ≡ true → Going flat q g.number env (end_env d (fold flat q d (g ∷ gs) es))
 here flat q d gs rest g es env one h =
     let is : step flat q d g es ≡ others g.number es ++ passed (through flat q g env) true (slice_get q.blocks g.number) d g.choices =
-        ap (λ x. others g.number es ++ passed (through flat q g x) (reached g.number es) (slice_get q.blocks g.number) d g.choices) (one_entered g.number d es env one)
-        ∙ ap (λ x. others g.number es ++ passed (through flat q g env) x (slice_get q.blocks g.number) d g.choices) (one_reached g.number es env one) in
+    ap (λ x. others g.number es ++ passed (through flat q g x) (reached g.number es) (slice_get q.blocks g.number) d g.choices) (one_entered g.number d es env one)
+    ∙ ap (λ x. others g.number es ++ passed (through flat q g env) x (slice_get q.blocks g.number) d g.choices) (one_reached g.number es env one) in
     subst (λ x. Going flat q g.number env (end_env d (fold flat q d gs x))) (sym is)
-        (by_state flat q d gs rest g (others g.number es) env (through flat q g env) (slice_get q.blocks g.number) (one_dead g.number es env one) refl refl
-            (sym (ap (λ x. ends (fold flat q d gs x)) is) ∙ h))
+    (by_state flat q d gs rest g (others g.number es) env (through flat q g env) (slice_get q.blocks g.number) (one_dead g.number es env one) refl refl
+    (sym (ap (λ x. ends (fold flat q d gs x)) is) ∙ h))
 
 pub number_is : (b n : ℕ) → nat_eq b n ≡ true → n ≡ b
 number_is b n h = grind (arith, nat_tests, h)
@@ -157,7 +179,7 @@ by_number flat q d gs rest g es b env false f one h = rest (step flat q d g es) 
 by_number flat q d gs rest g es b env true f one h =
     let same = number_is b g.number f in
     subst (λ x. Going flat q x env (end_env d (fold flat q d (g ∷ gs) es))) same
-        (here flat q d gs rest g es env (subst (λ x. One es (Some x) env) (sym same) one) h)
+    (here flat q d gs rest g es env (subst (λ x. One es (Some x) env) (sym same) one) h)
 
 -- the live edge leads to a run that ends
 pub sound : (flat : Limited) (q : FlatProc) (d : Env) (gs : List Given) (es : List Edge) (b : ℕ) (env : Env) →

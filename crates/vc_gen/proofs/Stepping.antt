@@ -41,8 +41,15 @@ length_from k (s ∷ ss) = ap suc (length_from (k + 1) ss)
 
 site_count : (vals : ℕ → Value) (f : ℕ) (outs after : List Sort) → length (vals f ∷ (map vals (outs_from f outs) ++ map vals (after_from f outs after))) ≡ length (bool_sort ∷ (outs ++ after))
 site_count vals f outs after =
-    omega (arith, length-append (map vals (outs_from f outs)) (map vals (after_from f outs after)), length-append outs after, length-map (outs_from f outs) vals, length-map (after_from f outs after) vals,
-        length_from (f + 1) outs, length_from (f + 1 + length outs) after)
+    omega (
+      arith,
+      length-append (map vals (outs_from f outs)) (map vals (after_from f outs after)),
+      length-append outs after,
+      length-map (outs_from f outs) vals,
+      length-map (after_from f outs after) vals,
+      length_from (f + 1) outs,
+      length_from (f + 1 + length outs) after,
+    )
 
 pub values_read : (vals : ℕ → Value) (items : List Item) → values_in items (inputs vals items) ≡ taken_values vals items
 values_read vals [] = refl
@@ -64,7 +71,7 @@ site_read vals f outs after more =
     let m : length gs ≡ length after = length-map (after_from f outs after) vals ∙ length_from (f + 1 + length outs) after in
     ap (λ x. if is_on (vals f) then Broken 0 0 else Ended x (take (length after) (drop (length outs) ((os ++ gs) ++ more)))) (ap (take (length outs)) (append_assoc os gs more) ∙ take_front os (gs ++ more) (length outs) n)
     ∙ ap (λ x. if is_on (vals f) then Broken 0 0 else Ended os x)
-        (ap (λ z. take (length after) (drop (length outs) z)) (append_assoc os gs more) ∙ ap (take (length after)) (drop_front os (gs ++ more) (length outs) n) ∙ take_front gs more (length after) m)
+    (ap (λ z. take (length after) (drop (length outs) z)) (append_assoc os gs more) ∙ ap (take (length after)) (drop_front os (gs ++ more) (length outs) n) ∙ take_front gs more (length after) m)
 
 pub results_read : (vals : ℕ → Value) (items : List Item) → results_in items (inputs vals items) ≡ taken_results vals items
 results_read vals [] = refl
@@ -76,7 +83,7 @@ results_read vals (Check p e ∷ items) = results_read vals items
 results_read vals (Site p f args before outs changes after ∷ items) =
     ap (λ x. x ∷ results_in items (drop (length (bool_sort ∷ (outs ++ after))) ((vals f ∷ (map vals (outs_from f outs) ++ map vals (after_from f outs after))) ++ inputs vals items))) (site_read vals f outs after (inputs vals items))
     ∙ ap (λ x. site_result vals f outs after ∷ results_in items x)
-        (drop_front (vals f ∷ (map vals (outs_from f outs) ++ map vals (after_from f outs after))) (inputs vals items) (length (bool_sort ∷ (outs ++ after))) (site_count vals f outs after))
+    (drop_front (vals f ∷ (map vals (outs_from f outs) ++ map vals (after_from f outs after))) (inputs vals items) (length (bool_sort ∷ (outs ++ after))) (site_count vals f outs after))
     ∙ ap (λ x. site_result vals f outs after ∷ x) (results_read vals items)
 
 -- ---- the bit behind the items
@@ -124,15 +131,17 @@ module _ (flat : Limited) (q : FlatProc) (cs : List ℕ) (n : ℕ) (b : FlatBloc
     (at_n : slice_get q.blocks n ≡ Some b) (there : cmds_there flat q b.cmds ≡ true)
     (versions : d.versions ≡ globals ++ locals) (c_are : AreOf before cs csorts) (g_are : AreOf before globals flat.globals) (l_are : AreOf before locals (variables_of q))
     (s : Step cs n before d (items_all flat q (entry_cur flat q) 0 (entry_count flat q) b.cmds) new e) where
-
   pub block_step : (a : ℕ → Value) (dead : Env) (es : List Edge) → IsTrue (fits a new) → is_on (value a before d.cond) ≡ reached n es →
       (reached n es ≡ true → record { consts = all_at a before cs; globals = all_at a before globals; locals = all_at a before locals } ≡ entered n dead es) →
       Alike
-          (others n es ++ out_next b.next (is_on (value a new e.cond))
-              (record { consts = all_at a new cs; globals = all_at a new (terms_of e.versions (cur_end flat (entry_cur flat q) (entry_count flat q) b.cmds).globals);
-                        locals = all_at a new (terms_of e.versions (cur_end flat (entry_cur flat q) (entry_count flat q) b.cmds).locals) })
-              (map is_on (reads a (d.next + length (chosen (items_at flat q n))) (choices_at q n))))
-          (step flat q dead (given_at flat q a d.next n) es)
+      (others n es ++ out_next b.next (is_on (value a new e.cond))
+      (record {
+        consts = all_at a new cs;
+        globals = all_at a new (terms_of e.versions (cur_end flat (entry_cur flat q) (entry_count flat q) b.cmds).globals);
+        locals = all_at a new (terms_of e.versions (cur_end flat (entry_cur flat q) (entry_count flat q) b.cmds).locals);
+      })
+      (map is_on (reads a (d.next + length (chosen (items_at flat q n))) (choices_at q n))))
+      (step flat q dead (given_at flat q a d.next n) es)
   block_step a dead es f on env =
       let items = items_all flat q (entry_cur flat q) 0 (entry_count flat q) b.cmds in
       let leave = cur_end flat (entry_cur flat q) (entry_count flat q) b.cmds in
@@ -147,24 +156,24 @@ module _ (flat : Limited) (q : FlatProc) (cs : List ℕ) (n : ℕ) (b : FlatBloc
       let ng = are_count before globals flat.globals g_are in
       let nl = are_count before locals (variables_of q) l_are in
       let g_is : map vals (entry_cur flat q).globals ≡ all_at a before globals =
-          span_values a new e.versions vals m.each [] globals (locals ++ s.more) flat.globals 0 row refl ng ∙ map_later before new a globals flat.globals s.later g_are in
+      span_values a new e.versions vals m.each [] globals (locals ++ s.more) flat.globals 0 row refl ng ∙ map_later before new a globals flat.globals s.later g_are in
       let l_is : map vals (entry_cur flat q).locals ≡ all_at a before locals =
-          span_values a new e.versions vals m.each globals locals s.more (variables_of q) (length flat.globals) row2 ng nl ∙ map_later before new a locals (variables_of q) s.later l_are in
+      span_values a new e.versions vals m.each globals locals s.more (variables_of q) (length flat.globals) row2 ng nl ∙ map_later before new a locals (variables_of q) s.later l_are in
       let c_is : consts ≡ all_at a before cs = map_later before new a cs csorts s.later c_are in
       let entry : reached n es ≡ true → env_of consts vals (entry_cur flat q) ≡ entered n dead es = λ y.
-          ap (λ x. record { consts = x; globals = map vals (entry_cur flat q).globals; locals = map vals (entry_cur flat q).locals }) c_is
-          ∙ same_env (all_at a before cs) (map vals (entry_cur flat q).globals) (all_at a before globals) (map vals (entry_cur flat q).locals) (all_at a before locals) g_is l_is ∙ env y in
+      ap (λ x. record { consts = x; globals = map vals (entry_cur flat q).globals; locals = map vals (entry_cur flat q).locals }) c_is
+      ∙ same_env (all_at a before cs) (map vals (entry_cur flat q).globals) (all_at a before globals) (map vals (entry_cur flat q).locals) (all_at a before locals) g_is l_is ∙ env y in
       let law = block_law flat q dead consts vals n b es choices at_n there says.defined entry in
       let bit : is_on (value a new e.cond) ≡ (reached n es && hold consts vals items) = says.on ∙ on_is consts vals (is_on (value a before d.cond)) items ∙ ap (λ x. x && hold consts vals items) on in
       let out : env_of consts vals leave ≡ record { consts = consts; globals = all_at a new (terms_of e.versions leave.globals); locals = all_at a new (terms_of e.versions leave.locals) } =
-          same_env consts (map vals leave.globals) (all_at a new (terms_of e.versions leave.globals)) (map vals leave.locals) (all_at a new (terms_of e.versions leave.locals))
-              (sym (terms_are a new e.versions leave.globals)) (sym (terms_are a new e.versions leave.locals)) in
+      same_env consts (map vals leave.globals) (all_at a new (terms_of e.versions leave.globals)) (map vals leave.locals) (all_at a new (terms_of e.versions leave.locals))
+      (sym (terms_are a new e.versions leave.globals)) (sym (terms_are a new e.versions leave.locals)) in
       let chosen_is : reads a d.next (length (chosen (items_at flat q n))) ≡ inputs vals items = ap (λ i. reads a d.next (length (chosen i))) here ∙ sym says.inputs_are in
       let given : given_by vals n items choices ≡ given_at flat q a d.next n =
-          same_given (taken_values vals items) (values_in (items_at flat q n) (reads a d.next (length (chosen (items_at flat q n))))) (taken_results vals items) (results_in (items_at flat q n) (reads a d.next (length (chosen (items_at flat q n)))))
-              choices
-              (sym (ap (λ i. values_in i (reads a d.next (length (chosen (items_at flat q n))))) here ∙ ap (values_in items) chosen_is ∙ values_read vals items))
-              (sym (ap (λ i. results_in i (reads a d.next (length (chosen (items_at flat q n))))) here ∙ ap (results_in items) chosen_is ∙ results_read vals items)) in
+      same_given (taken_values vals items) (values_in (items_at flat q n) (reads a d.next (length (chosen (items_at flat q n))))) (taken_results vals items) (results_in (items_at flat q n) (reads a d.next (length (chosen (items_at flat q n)))))
+      choices
+      (sym (ap (λ i. values_in i (reads a d.next (length (chosen (items_at flat q n))))) here ∙ ap (values_in items) chosen_is ∙ values_read vals items))
+      (sym (ap (λ i. results_in i (reads a d.next (length (chosen (items_at flat q n))))) here ∙ ap (results_in items) chosen_is ∙ results_read vals items)) in
       subst (λ (g : Given). Alike (others n es ++ out_next b.next (is_on (value a new e.cond)) (record { consts = consts; globals = all_at a new (terms_of e.versions leave.globals); locals = all_at a new (terms_of e.versions leave.locals) }) choices) (step flat q dead g es)) given
       (subst (λ (v : Env). Alike (others n es ++ out_next b.next (is_on (value a new e.cond)) v choices) (step flat q dead (given_by vals n items choices) es)) out
       (subst (λ (x : Bool). Alike (others n es ++ out_next b.next x (env_of consts vals leave) choices) (step flat q dead (given_by vals n items choices) es)) (sym bit) law))

@@ -115,35 +115,70 @@ module _ (cs : List ℕ) (block : ℕ) (old : List TermNode) (d : Draft) where
       let st = r.stands in
       let fit = reads_fit old cs d.versions r.csorts r.vsorts e st.consts st.versions r.fit.1 in
       record {
-        later = later; more = t ∷ []; versions = is;
+        later = later;
+        more = t ∷ [];
+        versions = is;
         are = (s.sort ∙ sort_is (whole_sort e) s.there, tt);
-        cond = sort_later old new d.cond bool_sort later st.cond; fails = sort_later old new d.fails bool_sort later st.fails;
-        next = omega arith; below = plain.below d.next st.next;
-        sites = []; sites_there = tt; sites_of = tt; sites_behind = sym (append-nil d.sites); numbered = refl; calls = omega arith; variables = plain.numbers ∙ sym (append-nil (variables_in old)); asserts = []; asserts_there = tt; asserts_behind = sym (append-nil d.asserts);
+        cond = sort_later old new d.cond bool_sort later st.cond;
+        fails = sort_later old new d.fails bool_sort later st.fails;
+        next = omega arith;
+        below = plain.below d.next st.next;
+        sites = [];
+        sites_there = tt;
+        sites_of = tt;
+        sites_behind = sym (append-nil d.sites);
+        numbered = refl;
+        calls = omega arith;
+        variables = plain.numbers ∙ sym (append-nil (variables_in old));
+        asserts = [];
+        asserts_there = tt;
+        asserts_behind = sym (append-nil d.asserts);
         says = λ a consts vals f m.
-          let back = meant_back a old new cs d.versions (t ∷ []) vs r.csorts r.vsorts consts vals later st.consts st.versions is m in
-          record {
-            defined = (m.each v t (ap (λ xs. slice_get xs v) is ∙ pushed_at d.versions t v (length r.vsorts) r.fit.0 (are_count old d.versions r.vsorts st.versions)) ∙ expr_value old new cs d.versions a consts vals e t s fit back, tt);
-            on = bit_later old new a d.cond later st.cond;
-            fails = bit_later old new a d.fails later st.fails ∙ or_false (is_on (value a old d.fails));
-            inputs_are = refl; sites_are = refl; asserts_are = refl };
-        fit = λ a f k. plain.fit a f }
+            let back = meant_back a old new cs d.versions (t ∷ []) vs r.csorts r.vsorts consts vals later st.consts st.versions is m in
+            record {
+              defined = (m.each v t (ap (λ xs. slice_get xs v) is ∙ pushed_at d.versions t v (length r.vsorts) r.fit.0 (are_count old d.versions r.vsorts st.versions)) ∙ expr_value old new cs d.versions a consts vals e t s fit back, tt);
+              on = bit_later old new a d.cond later st.cond;
+              fails = bit_later old new a d.fails later st.fails ∙ or_false (is_on (value a old d.fails));
+              inputs_are = refl;
+              sites_are = refl;
+              asserts_are = refl;
+            };
+        fit = λ a f k. plain.fit a f;
+      }
 
   pub step_zero : (new : List TermNode) (v t : ℕ) (s : Sort) (vs : List ℕ) → ItemReady old cs d (Zero v s) → Later old new → Plain old new → sort_at new t ≡ Some s → ((a : ℕ → Value) → value a new t ≡ zero_of s) → vs ≡ d.versions ++ t ∷ [] →
       Step cs block old d (Zero v s ∷ []) new (record d { versions = vs })
   step_zero new v t s vs r later plain sorted zero_is is =
       let st = r.stands in
       record {
-        later = later; more = t ∷ []; versions = is; are = (sorted, tt);
-        cond = sort_later old new d.cond bool_sort later st.cond; fails = sort_later old new d.fails bool_sort later st.fails;
-        next = omega arith; below = plain.below d.next st.next;
-        sites = []; sites_there = tt; sites_of = tt; sites_behind = sym (append-nil d.sites); numbered = refl; calls = omega arith; variables = plain.numbers ∙ sym (append-nil (variables_in old)); asserts = []; asserts_there = tt; asserts_behind = sym (append-nil d.asserts);
+        later = later;
+        more = t ∷ [];
+        versions = is;
+        are = (sorted, tt);
+        cond = sort_later old new d.cond bool_sort later st.cond;
+        fails = sort_later old new d.fails bool_sort later st.fails;
+        next = omega arith;
+        below = plain.below d.next st.next;
+        sites = [];
+        sites_there = tt;
+        sites_of = tt;
+        sites_behind = sym (append-nil d.sites);
+        numbered = refl;
+        calls = omega arith;
+        variables = plain.numbers ∙ sym (append-nil (variables_in old));
+        asserts = [];
+        asserts_there = tt;
+        asserts_behind = sym (append-nil d.asserts);
         says = λ a consts vals f m. record {
-            defined = (m.each v t (ap (λ xs. slice_get xs v) is ∙ pushed_at d.versions t v (length r.vsorts) r.fit.0 (are_count old d.versions r.vsorts st.versions)) ∙ zero_is a, tt);
-            on = bit_later old new a d.cond later st.cond;
-            fails = bit_later old new a d.fails later st.fails ∙ or_false (is_on (value a old d.fails));
-            inputs_are = refl; sites_are = refl; asserts_are = refl };
-        fit = λ a f k. plain.fit a f }
+          defined = (m.each v t (ap (λ xs. slice_get xs v) is ∙ pushed_at d.versions t v (length r.vsorts) r.fit.0 (are_count old d.versions r.vsorts st.versions)) ∙ zero_is a, tt);
+          on = bit_later old new a d.cond later st.cond;
+          fails = bit_later old new a d.fails later st.fails ∙ or_false (is_on (value a old d.fails));
+          inputs_are = refl;
+          sites_are = refl;
+          asserts_are = refl;
+        };
+        fit = λ a f k. plain.fit a f;
+      }
 
   pub step_need : (mid new : List TermNode) (e : List ExprNode) (t u : ℕ) → ItemReady old cs d (Need e) → Later old mid → Plain old mid → ExprSays old mid cs d.versions e t → Later mid new → Plain mid new → IsBoth mid new d.cond t u →
       Step cs block old d (Need e ∷ []) new (record d { cond = u })
@@ -152,19 +187,37 @@ module _ (cs : List ℕ) (block : ℕ) (old : List TermNode) (d : Draft) where
       let later = later_then old mid new l1 l2 in
       let fit = reads_fit old cs d.versions r.csorts r.vsorts e st.consts st.versions r.fit.1 in
       record {
-        later = later; more = []; versions = sym (append-nil d.versions); are = tt;
-        cond = b.sort; fails = sort_later old new d.fails bool_sort later st.fails;
-        next = omega arith; below = p2.below d.next (p1.below d.next st.next);
-        sites = []; sites_there = tt; sites_of = tt; sites_behind = sym (append-nil d.sites); numbered = refl; calls = omega arith; variables = p2.numbers ∙ p1.numbers ∙ sym (append-nil (variables_in old)); asserts = []; asserts_there = tt; asserts_behind = sym (append-nil d.asserts);
+        later = later;
+        more = [];
+        versions = sym (append-nil d.versions);
+        are = tt;
+        cond = b.sort;
+        fails = sort_later old new d.fails bool_sort later st.fails;
+        next = omega arith;
+        below = p2.below d.next (p1.below d.next st.next);
+        sites = [];
+        sites_there = tt;
+        sites_of = tt;
+        sites_behind = sym (append-nil d.sites);
+        numbered = refl;
+        calls = omega arith;
+        variables = p2.numbers ∙ p1.numbers ∙ sym (append-nil (variables_in old));
+        asserts = [];
+        asserts_there = tt;
+        asserts_behind = sym (append-nil d.asserts);
         says = λ a consts vals f m.
-          let back = meant_back a old new cs d.versions [] d.versions r.csorts r.vsorts consts vals later st.consts st.versions (sym (append-nil d.versions)) m in
-          record {
-            defined = tt;
-            on = b.means a (fits_before a mid new l2 f) ∙ ap (λ x. x && is_on (value a mid t)) (bit_later old mid a d.cond l1 st.cond)
-                 ∙ ap (λ x. is_on (value a old d.cond) && is_on x) (expr_value old mid cs d.versions a consts vals e t s fit back);
-            fails = bit_later old new a d.fails later st.fails ∙ or_false (is_on (value a old d.fails));
-            inputs_are = refl; sites_are = refl; asserts_are = refl };
-        fit = λ a f k. p2.fit a (p1.fit a f) }
+            let back = meant_back a old new cs d.versions [] d.versions r.csorts r.vsorts consts vals later st.consts st.versions (sym (append-nil d.versions)) m in
+            record {
+              defined = tt;
+              on = b.means a (fits_before a mid new l2 f) ∙ ap (λ x. x && is_on (value a mid t)) (bit_later old mid a d.cond l1 st.cond)
+                  ∙ ap (λ x. is_on (value a old d.cond) && is_on x) (expr_value old mid cs d.versions a consts vals e t s fit back);
+              fails = bit_later old new a d.fails later st.fails ∙ or_false (is_on (value a old d.fails));
+              inputs_are = refl;
+              sites_are = refl;
+              asserts_are = refl;
+            };
+        fit = λ a f k. p2.fit a (p1.fit a f);
+      }
 
   pub step_check : (m1 m2 new : List TermNode) (p : ℕ) (e : List ExprNode) (h n t : ℕ) (g : Draft) (fs : List FailTerm) → ItemReady old cs d (Check p e) → Later old m1 → Plain old m1 → ExprSays old m1 cs d.versions e h →
       Later m1 m2 → Plain m1 m2 → IsNot m1 m2 h n → Later m2 new → Plain m2 new → Passed m2 d h n new g t → fs ≡ g.asserts ++ record { block = block; position = p; node = t } ∷ [] →
@@ -181,29 +234,45 @@ module _ (cs : List ℕ) (block : ℕ) (old : List TermNode) (d : Draft) where
       let same_sites : g.sites ≡ d.sites ++ [] = ap (λ (x : Draft). x.sites) w.draft_is ∙ sym (append-nil d.sites) in
       let same_asserts : g.asserts ≡ d.asserts = ap (λ (x : Draft). x.asserts) w.draft_is in
       record {
-        later = later; more = []; versions = vs; are = tt;
-        cond = w.cond; fails = w.fails;
-        next = omega (arith, same_next); below = subst (λ (k : ℕ). IsTrue (below k new)) (sym same_next) (p3.below d.next (p2.below d.next (p1.below d.next st.next)));
-        sites = []; sites_there = tt; sites_of = tt; sites_behind = same_sites; numbered = refl; calls = omega (arith, ap (λ (x : Draft). x.calls) w.draft_is); variables = p3.numbers ∙ p2.numbers ∙ p1.numbers ∙ sym (append-nil (variables_in old));
-        asserts = record { block = block; position = p; node = t } ∷ []; asserts_there = (w.sort, tt); asserts_behind = is ∙ ap (λ xs. xs ++ record { block = block; position = p; node = t } ∷ []) same_asserts;
+        later = later;
+        more = [];
+        versions = vs;
+        are = tt;
+        cond = w.cond;
+        fails = w.fails;
+        next = omega (arith, same_next);
+        below = subst (λ (k : ℕ). IsTrue (below k new)) (sym same_next) (p3.below d.next (p2.below d.next (p1.below d.next st.next)));
+        sites = [];
+        sites_there = tt;
+        sites_of = tt;
+        sites_behind = same_sites;
+        numbered = refl;
+        calls = omega (arith, ap (λ (x : Draft). x.calls) w.draft_is);
+        variables = p3.numbers ∙ p2.numbers ∙ p1.numbers ∙ sym (append-nil (variables_in old));
+        asserts = record { block = block; position = p; node = t } ∷ [];
+        asserts_there = (w.sort, tt);
+        asserts_behind = is ∙ ap (λ xs. xs ++ record { block = block; position = p; node = t } ∷ []) same_asserts;
         says = λ a consts vals f m.
-          let f2 = fits_before a m2 new l3 f in
-          let f1 = fits_before a m1 m2 l2 f2 in
-          let back = meant_back a old new cs d.versions [] g.versions r.csorts r.vsorts consts vals later st.consts st.versions vs m in
-          let cond_is = bit_later old m2 a d.cond l12 st.cond in
-          let gone_is = bit_later old m2 a d.fails l12 st.fails in
-          let at_h : is_on (value a m1 h) ≡ is_on (eval_by (look_at consts vals) e) = ap is_on (expr_value old m1 cs d.versions a consts vals e h s fit back) in
-          let h_is : is_on (value a m2 h) ≡ is_on (eval_by (look_at consts vals) e) = bit_later m1 m2 a h l2 hb ∙ at_h in
-          let n_is : is_on (value a m2 n) ≡ not (is_on (eval_by (look_at consts vals) e)) = b.means a f1 ∙ ap not at_h in
-          let here : (is_on (value a m2 d.cond) && is_on (value a m2 n)) ≡ (is_on (value a old d.cond) && not (is_on (eval_by (look_at consts vals) e))) =
-              ap (λ x. x && is_on (value a m2 n)) cond_is ∙ ap (λ x. is_on (value a old d.cond) && x) n_is in
-          record {
-            defined = tt;
-            on = w.goes a f2 ∙ ap (λ x. x && is_on (value a m2 h)) cond_is ∙ ap (λ x. is_on (value a old d.cond) && x) h_is;
-            fails = w.failed a f2 ∙ ap (λ x. x || (is_on (value a m2 d.cond) && is_on (value a m2 n))) gone_is ∙ ap (λ x. is_on (value a old d.fails) || x) here;
-            inputs_are = refl; sites_are = refl;
-            asserts_are = ap {B = List FailMeans} (λ x. record { block = block; position = p; fails = x } ∷ []) (w.here a f2 ∙ here) };
-        fit = λ a f k. p3.fit a (p2.fit a (p1.fit a f)) }
+            let f2 = fits_before a m2 new l3 f in
+            let f1 = fits_before a m1 m2 l2 f2 in
+            let back = meant_back a old new cs d.versions [] g.versions r.csorts r.vsorts consts vals later st.consts st.versions vs m in
+            let cond_is = bit_later old m2 a d.cond l12 st.cond in
+            let gone_is = bit_later old m2 a d.fails l12 st.fails in
+            let at_h : is_on (value a m1 h) ≡ is_on (eval_by (look_at consts vals) e) = ap is_on (expr_value old m1 cs d.versions a consts vals e h s fit back) in
+            let h_is : is_on (value a m2 h) ≡ is_on (eval_by (look_at consts vals) e) = bit_later m1 m2 a h l2 hb ∙ at_h in
+            let n_is : is_on (value a m2 n) ≡ not (is_on (eval_by (look_at consts vals) e)) = b.means a f1 ∙ ap not at_h in
+            let here : (is_on (value a m2 d.cond) && is_on (value a m2 n)) ≡ (is_on (value a old d.cond) && not (is_on (eval_by (look_at consts vals) e))) =
+            ap (λ x. x && is_on (value a m2 n)) cond_is ∙ ap (λ x. is_on (value a old d.cond) && x) n_is in
+            record {
+              defined = tt;
+              on = w.goes a f2 ∙ ap (λ x. x && is_on (value a m2 h)) cond_is ∙ ap (λ x. is_on (value a old d.cond) && x) h_is;
+              fails = w.failed a f2 ∙ ap (λ x. x || (is_on (value a m2 d.cond) && is_on (value a m2 n))) gone_is ∙ ap (λ x. is_on (value a old d.fails) || x) here;
+              inputs_are = refl;
+              sites_are = refl;
+              asserts_are = ap {B = List FailMeans} (λ x. record { block = block; position = p; fails = x } ∷ []) (w.here a f2 ∙ here);
+            };
+        fit = λ a f k. p3.fit a (p2.fit a (p1.fit a f));
+      }
 
 one_sort : (v : Value) (s : Sort) (t : Sort) → s ≡ t → has_sort v s ≡ true → has_sort v t ≡ true
 one_sort v s t e h = ap (has_sort v) (sym e) ∙ h

@@ -68,9 +68,10 @@ call_passes : (flat : Limited) (s m : State) (p : ℕ) (call : Request) (outs : 
 call_passes flat s m p call outs [] are h = cc
 call_passes flat s m p call outs (Broken a b ∷ rs) are h = cc
 call_passes flat s m p call outs (Ended os gs ∷ rs) are h =
-    let c = choose_some (result_fits flat call.proc os gs) (alone (write_all (after_call flat call.proc s.env gs) outs os) s.values rs (s.calls ++ call ∷ [])) m h in
-    (sym (ap (λ (y : State). y.calls) c.1),
-     ap (map (λ r. Some r)) are ∙ ap (λ (y : State). Some (Ended os gs) ∷ map (λ r. Some r) y.results) c.1 ∙ ap (λ r. next_result r ∷ map (λ r. Some r) m.results) (sym are))
+    let c = choose_some (result_fits flat call.proc os gs) (alone (write_all (after_call flat call.proc s.env gs) outs os) s.values rs (s.calls ++ call ∷ [])) m h in (
+      sym (ap (λ (y : State). y.calls) c.1),
+      ap (map (λ r. Some r)) are ∙ ap (λ (y : State). Some (Ended os gs) ∷ map (λ r. Some r) y.results) c.1 ∙ ap (λ r. next_result r ∷ map (λ r. Some r) m.results) (sym are),
+    )
 
 pub one_passes : (flat : Limited) (q : FlatProc) (c : FlatCmd) (s m : State) → pass flat q c s ≡ Some m → Passes s m (passage_at true c s)
 one_passes flat q (Assign pairs) s m h =
@@ -90,9 +91,10 @@ all_passes flat q (c ∷ cs) s m h =
     let xs = passage_at true c s in
     let ys = passages flat q cs true t.0 in
     let is : passages flat q (c ∷ cs) true s ≡ xs ++ ys = ap (λ o. xs ++ behind (passages flat q cs) true s o) t.1 in
-    subst (λ (ps : List Passage). Passes s m ps) (sym is)
-        (more.0 ∙ ap (λ r. r ++ on_requests ys) one.0 ∙ append_assoc s.calls (on_requests xs) (on_requests ys) ∙ ap (λ r. s.calls ++ r) (sym (requests_append xs ys)),
-         one.1 ∙ ap (λ r. on_results xs ++ r) more.1 ∙ sym (append_assoc (on_results xs) (on_results ys) (map (λ r. Some r) m.results)) ∙ ap (λ r. r ++ map (λ r. Some r) m.results) (sym (results_append xs ys)))
+    subst (λ (ps : List Passage). Passes s m ps) (sym is) (
+      more.0 ∙ ap (λ r. r ++ on_requests ys) one.0 ∙ append_assoc s.calls (on_requests xs) (on_requests ys) ∙ ap (λ r. s.calls ++ r) (sym (requests_append xs ys)),
+      one.1 ∙ ap (λ r. on_results xs ++ r) more.1 ∙ sym (append_assoc (on_results xs) (on_results ys) (map (λ r. Some r) m.results)) ∙ ap (λ r. r ++ map (λ r. Some r) m.results) (sym (results_append xs ys)),
+    )
 
 -- ---- where the run isn't
 
@@ -120,7 +122,7 @@ quiet_cmds flat q (c ∷ cs) s = quiet_both (passage_at false c s) (behind (pass
 pub quiet_seen : (flat : Limited) (q : FlatProc) (d : Env) (g : Given) (es : List Edge) → reached g.number es ≡ false → Quiet (passages_seen flat q (seen_at d g es))
 quiet_seen flat q d g es off =
     subst (λ (b : Bool). Quiet (passages flat q (cmds_of (slice_get q.blocks g.number)) b (alone (entered g.number d es) g.values g.results []))) (sym off)
-        (quiet_cmds flat q (cmds_of (slice_get q.blocks g.number)) (alone (entered g.number d es) g.values g.results []))
+    (quiet_cmds flat q (cmds_of (slice_get q.blocks g.number)) (alone (entered g.number d es) g.values g.results []))
 
 -- what the run doesn't come to has no place
 places_none : (n i : ℕ) (ps : List Passage) → on_requests ps ≡ [] → places_at n i ps ≡ []
@@ -176,12 +178,13 @@ abbrev pub Still : Limited → FlatProc → Env → List Given → List Edge →
 Still flat q d gs es = (live_edges flat q d gs es ≡ []) × Quiet (all_passages flat q (seen flat q d gs es)) × (all_places flat q (seen flat q d gs es) ≡ []) × (seen_values (seen flat q d gs es) ≡ [])
 
 pub still_next : (flat : Limited) (q : FlatProc) (d : Env) (g : Given) (gs : List Given) (es : List Edge) → reached g.number es ≡ false → Still flat q d gs (step flat q d g es) → Still flat q d (g ∷ gs) es
-still_next flat q d g gs es off h =
-    (ap (λ r. edges_out g.number (through flat q g (entered g.number d es)) r (slice_get q.blocks g.number) g.choices ++ live_edges flat q d gs (step flat q d g es)) off
-     ∙ ap (λ r. r ++ live_edges flat q d gs (step flat q d g es)) (edges_off g.number (through flat q g (entered g.number d es)) (slice_get q.blocks g.number) g.choices) ∙ h.0,
-     quiet_both (passages_seen flat q (seen_at d g es)) (all_passages flat q (seen flat q d gs (step flat q d g es))) (quiet_seen flat q d g es off) h.1,
-     ap (λ r. r ++ all_places flat q (seen flat q d gs (step flat q d g es))) (quiet_places flat q d g es off) ∙ h.2,
-     seen_off flat q d g gs es off ∙ h.3)
+still_next flat q d g gs es off h = (
+  ap (λ r. edges_out g.number (through flat q g (entered g.number d es)) r (slice_get q.blocks g.number) g.choices ++ live_edges flat q d gs (step flat q d g es)) off
+      ∙ ap (λ r. r ++ live_edges flat q d gs (step flat q d g es)) (edges_off g.number (through flat q g (entered g.number d es)) (slice_get q.blocks g.number) g.choices) ∙ h.0,
+  quiet_both (passages_seen flat q (seen_at d g es)) (all_passages flat q (seen flat q d gs (step flat q d g es))) (quiet_seen flat q d g es off) h.1,
+  ap (λ r. r ++ all_places flat q (seen flat q d gs (step flat q d g es))) (quiet_places flat q d g es off) ∙ h.2,
+  seen_off flat q d g gs es off ∙ h.3,
+)
 
 pub end_still : (flat : Limited) (q : FlatProc) (d : Env) (gs : List Given) (es : List Edge) (env : Env) → One es None env → Still flat q d gs es
 end_still flat q d [] es env one = (refl, (refl, refl), refl, refl)
@@ -212,7 +215,9 @@ traced_return flat q b block env values results s rest more left by at next h qu
       calls_are = p.0 ∙ sym (append-nil (on_requests ps)) ∙ ap (λ x. on_requests ps ++ x) (sym quiet.0) ∙ sym (requests_append ps rest);
       results_are = p.1 ∙ ap (λ x. on_results ps ++ map (λ r. Some r) x) r.2 ∙ ap (λ x. on_results ps ++ x) (sym quiet.1) ∙ sym (results_append ps rest);
       places_are = ap (λ x. x ++ []) (passed_places flat q b block (alone env values results []) s at r.0) ∙ ap (λ x. places_at b 0 ps ++ x) (sym none);
-      values_are = sym (append-nil values) ∙ ap (λ x. values ++ x) (sym none_left); along_are = one }
+      values_are = sym (append-nil values) ∙ ap (λ x. values ++ x) (sym none_left);
+      along_are = one;
+    }
 
 traced_goes : (flat : Limited) (q : FlatProc) (b : ℕ) (block : FlatBlock) (env over : Env) (values : List Value) (results : List Result) (s : State) (place t : ℕ) (edges : List (ℕ × ℕ)) (rest : List Passage) (more : List (ℕ × ℕ)) (left : List Value) (by own : List ℕ → List Value) →
     slice_get q.blocks b ≡ Some block → place_of block.next place ≡ Some t → closed (pass_all flat q block.cmds (alone env values results [])) ≡ Some s →
@@ -228,10 +233,12 @@ traced_goes flat q b block env over values results s place t edges rest more lef
       edges_are = ap (λ x. (b, place) ∷ x) m.edges_are;
       calls_are = ap (λ x. x ++ m.going.calls) p.0 ∙ ap (λ x. on_requests ps ++ x) m.calls_are ∙ sym (requests_append ps rest);
       results_are =
-        map-append some results m.going.results ∙ ap (λ x. x ++ map some m.going.results) (p.1 ∙ ap (λ x. on_results ps ++ map some x) r.2 ∙ append-nil (on_results ps))
-        ∙ ap (λ x. on_results ps ++ x) m.results_are ∙ sym (results_append ps rest);
+          map-append some results m.going.results ∙ ap (λ x. x ++ map some m.going.results) (p.1 ∙ ap (λ x. on_results ps ++ map some x) r.2 ∙ append-nil (on_results ps))
+          ∙ ap (λ x. on_results ps ++ x) m.results_are ∙ sym (results_append ps rest);
       places_are = ap (λ x. x ++ path_places q (t ∷ m.going.path)) (passed_places flat q b block (alone env values results []) s at r.0) ∙ ap (λ x. places_at b 0 ps ++ x) m.places_are;
-      values_are = ap (λ x. values ++ x) m.values_are; along_are = ap (λ x. values ++ x) m.along_are ∙ sym (step_on (t ∷ m.going.path)) }
+      values_are = ap (λ x. values ++ x) m.values_are;
+      along_are = ap (λ x. values ++ x) m.along_are ∙ sym (step_on (t ∷ m.going.path));
+    }
 
 abbrev Rest : Limited → FlatProc → Env → List Given → Type 0
 Rest flat q d gs = (es : List Edge) (b : ℕ) (env : Env) → One es (Some b) env → ends (fold flat q d gs es) ≡ true →
@@ -241,10 +248,10 @@ by_next : (flat : Limited) (q : FlatProc) (d : Env) (gs : List Given) → Rest f
     Dead before → slice_get q.blocks g.number ≡ Some block → block.next ≡ next → closed (pass_all flat q block.cmds (alone env g.values g.results [])) ≡ Some s →
     ends (fold flat q d gs (before ++ out_next next true s.env g.choices)) ≡ true →
     Traced flat q g.number env (end_env d (fold flat q d gs (before ++ out_next next true s.env g.choices)))
-        (edges_next g.number next true s.env g.choices ++ live_edges flat q d gs (before ++ out_next next true s.env g.choices))
-        (passages flat q block.cmds true (alone env g.values g.results []) ++ all_passages flat q (seen flat q d gs (before ++ out_next next true s.env g.choices)))
-        (places_at g.number 0 (passages flat q block.cmds true (alone env g.values g.results [])) ++ all_places flat q (seen flat q d gs (before ++ out_next next true s.env g.choices)))
-        (g.values ++ seen_values (seen flat q d gs (before ++ out_next next true s.env g.choices))) (along (g ∷ gs))
+    (edges_next g.number next true s.env g.choices ++ live_edges flat q d gs (before ++ out_next next true s.env g.choices))
+    (passages flat q block.cmds true (alone env g.values g.results []) ++ all_passages flat q (seen flat q d gs (before ++ out_next next true s.env g.choices)))
+    (places_at g.number 0 (passages flat q block.cmds true (alone env g.values g.results [])) ++ all_places flat q (seen flat q d gs (before ++ out_next next true s.env g.choices)))
+    (g.values ++ seen_values (seen flat q d gs (before ++ out_next next true s.env g.choices))) (along (g ∷ gs))
 by_next flat q d gs rest g before env s block Return k at next h e =
     let es = before ++ out_next Return true s.env g.choices in
     let here = one_right before (out_next Return true s.env g.choices) None s.env k (inl (refl, refl, refl, tt)) in
@@ -255,8 +262,8 @@ by_next flat q d gs rest g before env s block Return k at next h e =
     let vl = g.values ++ seen_values (seen flat q d gs es) in
     subst (λ (x : List (ℕ × ℕ)). Traced flat q g.number env (end_env d (fold flat q d gs es)) x ps pl vl (along (g ∷ gs))) (sym still.0)
     (subst (λ x. Traced flat q g.number env x [] ps pl vl (along (g ∷ gs))) (sym (one_end_env d (fold flat q d gs es) s.env one))
-        (traced_return flat q g.number block env g.values g.results s (all_passages flat q (seen flat q d gs es)) (all_places flat q (seen flat q d gs es)) (seen_values (seen flat q d gs es)) (along (g ∷ gs)) at next h still.1 still.2 still.3
-            (ap (λ x. g.values ++ x) (still.3 ∙ sym (along_none gs)) ∙ sym (along_here g gs []))))
+    (traced_return flat q g.number block env g.values g.results s (all_passages flat q (seen flat q d gs es)) (all_places flat q (seen flat q d gs es)) (seen_values (seen flat q d gs es)) (along (g ∷ gs)) at next h still.1 still.2 still.3
+    (ap (λ x. g.values ++ x) (still.3 ∙ sym (along_none gs)) ∙ sym (along_here g gs []))))
 by_next flat q d gs rest g before env s block (Goto []) k at next h e =
     absurd (dead_end flat q d gs (before ++ []) (dead_append before [] k tt) e)
 by_next flat q d gs rest g before env s block (Goto (u ∷ ts)) k at next h e =
@@ -268,17 +275,17 @@ by_next flat q d gs rest g before env s block (Goto (u ∷ ts)) k at next h e =
     let vl = g.values ++ seen_values (seen flat q d gs es) in
     subst (λ (x : List (ℕ × ℕ)). Traced flat q g.number env (end_env d (fold flat q d gs es)) (x ++ live_edges flat q d gs es) ps pl vl (along (g ∷ gs))) (sym f.only)
     (subst (λ (p : ℕ). Traced flat q g.number env (end_env d (fold flat q d gs es)) ((g.number, p) ∷ live_edges flat q d gs es) ps pl vl (along (g ∷ gs))) (omega arith)
-        (traced_goes flat q g.number block env (end_env d (fold flat q d gs es)) g.values g.results s f.place f.to (live_edges flat q d gs es) (all_passages flat q (seen flat q d gs es)) (all_places flat q (seen flat q d gs es)) (seen_values (seen flat q d gs es)) (along gs) (along (g ∷ gs)) at
-            (ap (λ x. place_of x f.place) next ∙ f.at) h more (along_here g gs)))
+    (traced_goes flat q g.number block env (end_env d (fold flat q d gs es)) g.values g.results s f.place f.to (live_edges flat q d gs es) (all_passages flat q (seen flat q d gs es)) (all_places flat q (seen flat q d gs es)) (seen_values (seen flat q d gs es)) (along gs) (along (g ∷ gs)) at
+    (ap (λ x. place_of x f.place) next ∙ f.at) h more (along_here g gs)))
 
 by_state : (flat : Limited) (q : FlatProc) (d : Env) (gs : List Given) → Rest flat q d gs → (g : Given) (before : List Edge) (env : Env) (o : Option State) (b : Option FlatBlock) →
     Dead before → slice_get q.blocks g.number ≡ b → through flat q g env ≡ o →
     ends (fold flat q d gs (before ++ passed o true b d g.choices)) ≡ true →
     Traced flat q g.number env (end_env d (fold flat q d gs (before ++ passed o true b d g.choices)))
-        (edges_out g.number o true b g.choices ++ live_edges flat q d gs (before ++ passed o true b d g.choices))
-        (passages flat q (cmds_of b) true (alone env g.values g.results []) ++ all_passages flat q (seen flat q d gs (before ++ passed o true b d g.choices)))
-        (places_at g.number 0 (passages flat q (cmds_of b) true (alone env g.values g.results [])) ++ all_places flat q (seen flat q d gs (before ++ passed o true b d g.choices)))
-        (g.values ++ seen_values (seen flat q d gs (before ++ passed o true b d g.choices))) (along (g ∷ gs))
+    (edges_out g.number o true b g.choices ++ live_edges flat q d gs (before ++ passed o true b d g.choices))
+    (passages flat q (cmds_of b) true (alone env g.values g.results []) ++ all_passages flat q (seen flat q d gs (before ++ passed o true b d g.choices)))
+    (places_at g.number 0 (passages flat q (cmds_of b) true (alone env g.values g.results [])) ++ all_places flat q (seen flat q d gs (before ++ passed o true b d g.choices)))
+    (g.values ++ seen_values (seen flat q d gs (before ++ passed o true b d g.choices))) (along (g ∷ gs))
 by_state flat q d gs rest g before env None b k at h e =
     absurd (dead_end flat q d gs (before ++ out_of b false d g.choices) (dead_append before (out_of b false d g.choices) k (dead_out b d g.choices)) e)
 by_state flat q d gs rest g before env (Some s) None k at h e =
@@ -292,28 +299,28 @@ here flat q d gs rest g es env one h =
     let before = others g.number es in
     let block = slice_get q.blocks g.number in
     let P : Env → Bool → Type 0 = λ v r. ends (fold flat q d gs (before ++ passed (through flat q g v) r block d g.choices)) ≡ true →
-        Traced flat q g.number env (end_env d (fold flat q d gs (before ++ passed (through flat q g v) r block d g.choices)))
-            (edges_out g.number (through flat q g v) r block g.choices ++ live_edges flat q d gs (before ++ passed (through flat q g v) r block d g.choices))
-            (passages flat q (cmds_of block) r (alone v g.values g.results []) ++ all_passages flat q (seen flat q d gs (before ++ passed (through flat q g v) r block d g.choices)))
-            (places_at g.number 0 (passages flat q (cmds_of block) r (alone v g.values g.results [])) ++ all_places flat q (seen flat q d gs (before ++ passed (through flat q g v) r block d g.choices)))
-            (if r then g.values ++ seen_values (seen flat q d gs (before ++ passed (through flat q g v) r block d g.choices)) else seen_values (seen flat q d gs (before ++ passed (through flat q g v) r block d g.choices))) (along (g ∷ gs)) in
+    Traced flat q g.number env (end_env d (fold flat q d gs (before ++ passed (through flat q g v) r block d g.choices)))
+    (edges_out g.number (through flat q g v) r block g.choices ++ live_edges flat q d gs (before ++ passed (through flat q g v) r block d g.choices))
+    (passages flat q (cmds_of block) r (alone v g.values g.results []) ++ all_passages flat q (seen flat q d gs (before ++ passed (through flat q g v) r block d g.choices)))
+    (places_at g.number 0 (passages flat q (cmds_of block) r (alone v g.values g.results [])) ++ all_places flat q (seen flat q d gs (before ++ passed (through flat q g v) r block d g.choices)))
+    (if r then g.values ++ seen_values (seen flat q d gs (before ++ passed (through flat q g v) r block d g.choices)) else seen_values (seen flat q d gs (before ++ passed (through flat q g v) r block d g.choices))) (along (g ∷ gs)) in
     subst (λ r. P (entered g.number d es) r) (sym (one_reached g.number es env one))
-        (subst (λ v. P v true) (sym (one_entered g.number d es env one))
-            (λ e. by_state flat q d gs rest g before env (through flat q g env) block (one_dead g.number es env one) refl refl e)) h
+    (subst (λ v. P v true) (sym (one_entered g.number d es env one))
+    (λ e. by_state flat q d gs rest g before env (through flat q g env) block (one_dead g.number es env one) refl refl e)) h
 
 by_number : (flat : Limited) (q : FlatProc) (d : Env) (gs : List Given) → Rest flat q d gs → (g : Given) (es : List Edge) (b : ℕ) (env : Env) (x : Bool) → nat_eq b g.number ≡ x → One es (Some b) env →
     ends (fold flat q d (g ∷ gs) es) ≡ true → Traced flat q b env (end_env d (fold flat q d (g ∷ gs) es)) (live_edges flat q d (g ∷ gs) es) (all_passages flat q (seen flat q d (g ∷ gs) es)) (all_places flat q (seen flat q d (g ∷ gs) es)) (seen_values (seen flat q d (g ∷ gs) es)) (along (g ∷ gs))
 by_number flat q d gs rest g es b env true f one h =
     let same = number_is b g.number f in
     subst (λ x. Traced flat q x env (end_env d (fold flat q d (g ∷ gs) es)) (live_edges flat q d (g ∷ gs) es) (all_passages flat q (seen flat q d (g ∷ gs) es)) (all_places flat q (seen flat q d (g ∷ gs) es)) (seen_values (seen flat q d (g ∷ gs) es)) (along (g ∷ gs))) same
-        (here flat q d gs rest g es env (subst (λ x. One es (Some x) env) (sym same) one) h)
+    (here flat q d gs rest g es env (subst (λ x. One es (Some x) env) (sym same) one) h)
 by_number flat q d gs rest g es b env false f one h =
     let fs = step flat q d g es in
     let off = one_unreached g.number es (Some b) env f one in
     let m = rest fs b env (end_step flat q d g es (Some b) env f one) h in
     let first = edges_out g.number (through flat q g (entered g.number d es)) (reached g.number es) (slice_get q.blocks g.number) g.choices in
     let none : first ≡ [] =
-        ap (λ r. edges_out g.number (through flat q g (entered g.number d es)) r (slice_get q.blocks g.number) g.choices) off ∙ edges_off g.number (through flat q g (entered g.number d es)) (slice_get q.blocks g.number) g.choices in
+    ap (λ r. edges_out g.number (through flat q g (entered g.number d es)) r (slice_get q.blocks g.number) g.choices) off ∙ edges_off g.number (through flat q g (entered g.number d es)) (slice_get q.blocks g.number) g.choices in
     let quiet = quiet_seen flat q d g es off in
     let ps = passages_seen flat q (seen_at d g es) in
     let more = all_passages flat q (seen flat q d gs fs) in
@@ -323,7 +330,9 @@ by_number flat q d gs rest g es b env false f one h =
       calls_are = m.calls_are ∙ ap (λ r. r ++ on_requests more) (sym quiet.0) ∙ sym (requests_append ps more);
       results_are = m.results_are ∙ ap (λ r. r ++ on_results more) (sym quiet.1) ∙ sym (results_append ps more);
       places_are = m.places_are ∙ ap (λ r. r ++ all_places flat q (seen flat q d gs fs)) (sym (quiet_places flat q d g es off));
-      values_are = m.values_are ∙ sym (seen_off flat q d g gs es off); along_are = seen_off flat q d g gs es off ∙ m.along_are ∙ sym (along_past g gs b (m.going.path) f) }
+      values_are = m.values_are ∙ sym (seen_off flat q d g gs es off);
+      along_are = seen_off flat q d g gs es off ∙ m.along_are ∙ sym (along_past g gs b (m.going.path) f);
+    }
 
 -- the run of `sound`, with its edges and its calls
 pub traced : (flat : Limited) (q : FlatProc) (d : Env) (gs : List Given) → Rest flat q d gs

@@ -50,7 +50,8 @@ choice old new d e s t is f v =
       next = ap (λ (x : Draft). x.next) f2.draft_is;
       below = f2.below;
       numbers = fresh_numbers old new d e (bool_sort ∷ []) f2;
-      fit = f2.fit }
+      fit = f2.fit;
+    }
   where
     one : (v w : Value) → v ∷ [] ≡ w ∷ [] → v ≡ w
     one v w h = cc
@@ -69,14 +70,15 @@ parted old m1 m2 m3 new d e left c other live rest hl l1 ch l2 p2 b2 l3 p3 b3 l4
       live_sort = sort_later m3 new live bool_sort l4 b3.sort;
       rest_sort = b4.sort;
       live_is = λ a f.
-        let f3 = fits_before a m3 new l4 f in
-        let f2 = fits_before a m2 m3 l3 f3 in
-        bit_later m3 new a live l4 b3.sort ∙ b3.means a f2 ∙ ap (λ x. x && is_on (value a m2 c)) (bit_later old m2 a left l12 hl)
-        ∙ ap (λ x. is_on (value a old left) && x) (bit_later m1 m2 a c l2 ch.sort ∙ ap is_on (ch.value_is a));
+          let f3 = fits_before a m3 new l4 f in
+          let f2 = fits_before a m2 m3 l3 f3 in
+          bit_later m3 new a live l4 b3.sort ∙ b3.means a f2 ∙ ap (λ x. x && is_on (value a m2 c)) (bit_later old m2 a left l12 hl)
+          ∙ ap (λ x. is_on (value a old left) && x) (bit_later m1 m2 a c l2 ch.sort ∙ ap is_on (ch.value_is a));
       rest_is = λ a f.
-        let f3 = fits_before a m3 new l4 f in
-        let f2 = fits_before a m2 m3 l3 f3 in
-        let f1 = fits_before a m1 m2 l2 f2 in
-        b4.means a f3 ∙ ap (λ x. x && is_on (value a m3 other)) (bit_later old m3 a left l13 hl)
-        ∙ ap (λ x. is_on (value a old left) && x) (bit_later m2 m3 a other l3 b2.sort ∙ b2.means a f1 ∙ ap (λ v. not (is_on v)) (ch.value_is a));
-      fit = λ a f g. p4.fit a (p3.fit a (p2.fit a (ch.fit a f g))) }
+          let f3 = fits_before a m3 new l4 f in
+          let f2 = fits_before a m2 m3 l3 f3 in
+          let f1 = fits_before a m1 m2 l2 f2 in
+          b4.means a f3 ∙ ap (λ x. x && is_on (value a m3 other)) (bit_later old m3 a left l13 hl)
+          ∙ ap (λ x. is_on (value a old left) && x) (bit_later m2 m3 a other l3 b2.sort ∙ b2.means a f1 ∙ ap (λ v. not (is_on v)) (ch.value_is a));
+      fit = λ a f g. p4.fit a (p3.fit a (p2.fit a (ch.fit a f g)));
+    }

@@ -58,21 +58,38 @@ fit_at csorts gsorts lsorts bs i x h l is = subst (λ (y : PassiveBlock). BlockF
 pub block_ready : (cs : List ℕ) (spare : Wait) (old mid : List TermNode) (d m : Draft) (edges edges1 : List EdgeTerm) (first waits : List Wait) (bs : List PassiveBlock) (i : ℕ) (x : PassiveBlock) → FlowReady old cs spare d first bs → Went cs spare old d edges first bs i mid m edges1 waits →
     i < length bs → x ≡ slice_index_or bs i x → BlockReady mid cs spare m waits x
 block_ready cs spare old mid d m edges edges1 first waits bs i x r h l is = record {
-  csorts = r.csorts; gsorts = r.gsorts; lsorts = r.lsorts; stage = h.stage r.csorts r.gsorts r.lsorts r.stage r.fit; fit = fit_at r.csorts r.gsorts r.lsorts bs i x r.fit l is }
+  csorts = r.csorts;
+  gsorts = r.gsorts;
+  lsorts = r.lsorts;
+  stage = h.stage r.csorts r.gsorts r.lsorts r.stage r.fit;
+  fit = fit_at r.csorts r.gsorts r.lsorts bs i x r.fit l is;
+}
 
 pub went_start : (cs : List ℕ) (spare : Wait) (old : List TermNode) (d : Draft) (edges : List EdgeTerm) (first : List Wait) (bs : List PassiveBlock) → FlowReady old cs spare d first bs → Went cs spare old d edges first bs 0 old d edges first
 went_start cs spare old d edges first bs r = record {
   later = later_same old r.stage.sound;
-  marks = []; marks_are = sym (append-nil edges); marks_there = tt; sites = []; sites_are = sym (append-nil d.sites); sites_there = tt;
-  asserts = []; asserts_are = sym (append-nil d.asserts); asserts_there = tt;
-  next = omega arith; numbers = sym (append-nil (variables_in old));
+  marks = [];
+  marks_are = sym (append-nil edges);
+  marks_there = tt;
+  sites = [];
+  sites_are = sym (append-nil d.sites);
+  sites_there = tt;
+  asserts = [];
+  asserts_are = sym (append-nil d.asserts);
+  asserts_there = tt;
+  next = omega arith;
+  numbers = sym (append-nil (variables_in old));
   fit = λ a f h. f;
   stage = λ c g l h k. h;
   says = λ flat q order is there h k. record {
     alike = λ a dead f. alike_same (edges_at a old (all_at a old cs) first);
     fails = λ a dead f. or_none (is_on (value a old d.fails));
     edges = λ a dead f. refl;
-    calls = λ a dead f. tt; places = λ a dead f. refl; signed = tt } }
+    calls = λ a dead f. tt;
+    places = λ a dead f. refl;
+    signed = tt;
+  };
+}
   where
     or_none : (b : Bool) → b ≡ (b || false)
     or_none true = refl
@@ -140,7 +157,7 @@ offs : (flat : Limited) (q : FlatProc) (cmds : List FlatCmd) (s t : State) → S
 offs flat q [] s t = tt
 offs flat q (c ∷ cs) s t =
     off_append (passage_at false c s) (passage_at false c t) (behind (passages flat q cs) false s (pass flat q c s)) (behind (passages flat q cs) false t (pass flat q c t)) (off_here c s t)
-        (off_behind (passages flat q cs) (offs flat q cs) s t (pass flat q c s) (pass flat q c t))
+    (off_behind (passages flat q cs) (offs flat q cs) s t (pass flat q c s) (pass flat q c t))
 
 off_same : (ms : List SiteMeans) (ps rs : List Passage) → SameOff ps rs → SameCalls ms ps → SameCalls ms rs
 off_same [] [] [] h k = tt
@@ -157,7 +174,7 @@ off_any flat q ms cmds s t h = off_same ms (passages flat q cmds false s) (passa
 alike_calls : (flat : Limited) (q : FlatProc) (d : Env) (g : Given) (es fs : List Edge) (ms : List SiteMeans) → Alike es fs → SameCalls ms (passages_seen flat q (seen_at d g es)) → SameCalls ms (passages_seen flat q (seen_at d g fs))
 alike_calls flat q d g es fs ms h k =
     by (reached g.number fs) (λ e. alike_entered g.number d d es fs h (inr e))
-        (subst (λ (r : Bool). SameCalls ms (passages flat q (cmds_of (slice_get q.blocks g.number)) r (alone (entered g.number d es) g.values g.results []))) (alike_reached g.number es fs h) k)
+    (subst (λ (r : Bool). SameCalls ms (passages flat q (cmds_of (slice_get q.blocks g.number)) r (alone (entered g.number d es) g.values g.results []))) (alike_reached g.number es fs h) k)
   where
     by : (r : Bool) → (r ≡ true → entered g.number d es ≡ entered g.number d fs) → SameCalls ms (passages flat q (cmds_of (slice_get q.blocks g.number)) r (alone (entered g.number d es) g.values g.results [])) →
         SameCalls ms (passages flat q (cmds_of (slice_get q.blocks g.number)) r (alone (entered g.number d fs) g.values g.results []))
@@ -197,66 +214,68 @@ went_next cs spare old mid new d m e edges edges1 edges2 first waits left bs i x
       next = omega (arith, h.next, k.next, count);
       numbers = numbers_then (variables_in old) (variables_in mid) (variables_in new) d.next m.next n1 n2 (length (blocks_sorts (take (i + 1) bs))) h.numbers h.next k.numbers count;
       fit = λ a f s.
-        let split : reads a d.next (length (blocks_sorts (take (i + 1) bs))) ≡ reads a d.next n1 ++ reads a m.next n2 =
-            ap (reads a d.next) count ∙ reads_append a d.next n1 n2 ∙ ap (λ j. reads a d.next n1 ++ reads a j n2) (sym h.next) in
-        let s2 : sorted_as (blocks_sorts (take i bs) ++ block_sorts x) (reads a d.next n1 ++ reads a m.next n2) ≡ true =
-            sym (ap (λ ss. sorted_as ss (reads a d.next (length (blocks_sorts (take (i + 1) bs))))) sorts_are ∙ ap (sorted_as (blocks_sorts (take i bs) ++ block_sorts x)) split) ∙ s in
-        let len = length_reads a d.next n1 in
-        k.fit a (h.fit a f (sorts_left (blocks_sorts (take i bs)) (block_sorts x) (reads a d.next n1) (reads a m.next n2) len s2))
-            (sorts_right (blocks_sorts (take i bs)) (block_sorts x) (reads a d.next n1) (reads a m.next n2) len s2);
+          let split : reads a d.next (length (blocks_sorts (take (i + 1) bs))) ≡ reads a d.next n1 ++ reads a m.next n2 =
+          ap (reads a d.next) count ∙ reads_append a d.next n1 n2 ∙ ap (λ j. reads a d.next n1 ++ reads a j n2) (sym h.next) in
+          let s2 : sorted_as (blocks_sorts (take i bs) ++ block_sorts x) (reads a d.next n1 ++ reads a m.next n2) ≡ true =
+          sym (ap (λ ss. sorted_as ss (reads a d.next (length (blocks_sorts (take (i + 1) bs))))) sorts_are ∙ ap (sorted_as (blocks_sorts (take i bs) ++ block_sorts x)) split) ∙ s in
+          let len = length_reads a d.next n1 in
+          k.fit a (h.fit a f (sorts_left (blocks_sorts (take i bs)) (block_sorts x) (reads a d.next n1) (reads a m.next n2) len s2))
+          (sorts_right (blocks_sorts (take i bs)) (block_sorts x) (reads a d.next n1) (reads a m.next n2) len s2);
       stage = λ c g s st fit. k.stage c g s (h.stage c g s st fit) (fit_at c g s bs i x fit l is);
       says = λ flat q order are there st fit.
-        let p = at_place flat q order i x x there (subst (λ (ys : List PassiveBlock). i < length ys) are l) (is ∙ ap (λ ys. slice_index_or ys i x) are) in
-        let w = h.says flat q order are there st fit in
-        let b = k.says flat q p.n p.b p.at p.there p.is (h.stage flat.consts flat.globals (variables_of q) st fit) in
-        let place : d.next + length (sorts_of_blocks flat q (take i order)) ≡ m.next =
-            sym (h.next ∙ ap (λ ss. d.next + length ss) (ap (λ ys. blocks_sorts (take i ys)) are ∙ taken_sorts flat q order i)) in
-        let gs = λ (a : ℕ → Value). givens_at flat q a d.next (take i order) in
-        let g = λ (a : ℕ → Value). given_at flat q a m.next p.n in
-        let start = λ (a : ℕ → Value). edges_at a old (all_at a old cs) first in
-        let es = λ (a : ℕ → Value). edges_at a mid (all_at a mid cs) waits in
-        let row : (a : ℕ → Value) → givens_at flat q a d.next (take (i + 1) order) ≡ gs a ++ g a ∷ [] = λ a.
-            ap (givens_at flat q a d.next) p.order_is ∙ givens_push flat q a d.next (take i order) p.n ∙ ap (λ j. gs a ++ given_at flat q a j p.n ∷ []) place in
-        record {
-          alike = λ a dead f.
-            subst (λ (x : List Given). Alike (edges_at a new (all_at a new cs) left) (fold flat q dead x (start a))) (sym (row a))
+          let p = at_place flat q order i x x there (subst (λ (ys : List PassiveBlock). i < length ys) are l) (is ∙ ap (λ ys. slice_index_or ys i x) are) in
+          let w = h.says flat q order are there st fit in
+          let b = k.says flat q p.n p.b p.at p.there p.is (h.stage flat.consts flat.globals (variables_of q) st fit) in
+          let place : d.next + length (sorts_of_blocks flat q (take i order)) ≡ m.next =
+          sym (h.next ∙ ap (λ ss. d.next + length ss) (ap (λ ys. blocks_sorts (take i ys)) are ∙ taken_sorts flat q order i)) in
+          let gs = λ (a : ℕ → Value). givens_at flat q a d.next (take i order) in
+          let g = λ (a : ℕ → Value). given_at flat q a m.next p.n in
+          let start = λ (a : ℕ → Value). edges_at a old (all_at a old cs) first in
+          let es = λ (a : ℕ → Value). edges_at a mid (all_at a mid cs) waits in
+          let row : (a : ℕ → Value) → givens_at flat q a d.next (take (i + 1) order) ≡ gs a ++ g a ∷ [] = λ a.
+          ap (givens_at flat q a d.next) p.order_is ∙ givens_push flat q a d.next (take i order) p.n ∙ ap (λ j. gs a ++ given_at flat q a j p.n ∷ []) place in
+          record {
+            alike = λ a dead f.
+                subst (λ (x : List Given). Alike (edges_at a new (all_at a new cs) left) (fold flat q dead x (start a))) (sym (row a))
                 (alike_next flat q dead (gs a) (g a) (start a) (es a) (edges_at a new (all_at a new cs) left) (w.alike a dead (fits_before a mid new k.later f)) (b.alike a dead f));
-          fails = λ a dead f.
-            let fs = fold flat q dead (gs a) (start a) in
-            b.fails a dead f
-            ∙ ap (λ y. y || breaks_seen flat q (seen_at dead (g a) (es a))) (w.fails a dead (fits_before a mid new k.later f))
-            ∙ or_assoc (is_on (value a old d.fails)) (any_breaks flat q (seen flat q dead (gs a) (start a))) (breaks_seen flat q (seen_at dead (g a) (es a)))
-            ∙ ap (λ y. is_on (value a old d.fails) || (any_breaks flat q (seen flat q dead (gs a) (start a)) || y)) (alike_breaks flat q dead (g a) (es a) fs (w.alike a dead (fits_before a mid new k.later f)))
-            ∙ ap (λ y. is_on (value a old d.fails) || y)
+            fails = λ a dead f.
+                let fs = fold flat q dead (gs a) (start a) in
+                b.fails a dead f
+                ∙ ap (λ y. y || breaks_seen flat q (seen_at dead (g a) (es a))) (w.fails a dead (fits_before a mid new k.later f))
+                ∙ or_assoc (is_on (value a old d.fails)) (any_breaks flat q (seen flat q dead (gs a) (start a))) (breaks_seen flat q (seen_at dead (g a) (es a)))
+                ∙ ap (λ y. is_on (value a old d.fails) || (any_breaks flat q (seen flat q dead (gs a) (start a)) || y)) (alike_breaks flat q dead (g a) (es a) fs (w.alike a dead (fits_before a mid new k.later f)))
+                ∙ ap (λ y. is_on (value a old d.fails) || y)
                 (sym (ap (λ (x : List Given). any_breaks flat q (seen flat q dead x (start a))) (row a) ∙ ap (any_breaks flat q) (seen_push flat q dead (gs a) (g a) (start a)) ∙ any_push flat q (seen flat q dead (gs a) (start a)) (seen_at dead (g a) fs)));
-          edges = λ a dead f.
-            let fs = fold flat q dead (gs a) (start a) in
-            let f1 = fits_before a mid new k.later f in
-            marks_append a new h.marks k.marks
-            ∙ ap (λ r. r ++ true_edges a new k.marks) (marks_later mid new a h.marks k.later h.marks_there ∙ w.edges a dead f1)
-            ∙ ap (λ r. live_edges flat q dead (gs a) (start a) ++ r) (b.edges a dead f ∙ alike_out flat q dead (g a) (es a) fs (w.alike a dead f1))
-            ∙ sym (ap (λ (x : List Given). live_edges flat q dead x (start a)) (row a) ∙ live_push flat q dead (gs a) (g a) (start a));
-          places = λ a dead f.
-            let fs = fold flat q dead (gs a) (start a) in
-            let f1 = fits_before a mid new k.later f in
-            let sn = seen flat q dead (gs a) (start a) in
-            placed_append a new h.sites k.sites
-            ∙ ap (λ r. r ++ true_sites a new k.sites) (placed_later mid new a h.sites k.later h.sites_there ∙ w.places a dead f1)
-            ∙ ap (λ r. all_places flat q sn ++ r) (b.places a dead f ∙ alike_places flat q dead (g a) (es a) fs (w.alike a dead f1))
-            ∙ sym (ap (λ (x : List Given). all_places flat q (seen flat q dead x (start a))) (row a) ∙ ap (all_places flat q) (seen_push flat q dead (gs a) (g a) (start a)) ∙ places_push flat q sn (seen_at dead (g a) fs));
-          signed = signed_both flat new h.sites k.sites (signed_later flat mid new h.sites k.later w.signed) b.signed;
-          calls = λ a dead f.
-            let fs = fold flat q dead (gs a) (start a) in
-            let f1 = fits_before a mid new k.later f in
-            let sn = seen flat q dead (gs a) (start a) in
-            let here : SameCalls (map (site_value a new) k.sites) (passages_seen flat q (seen_at dead (g a) fs)) =
+            edges = λ a dead f.
+                let fs = fold flat q dead (gs a) (start a) in
+                let f1 = fits_before a mid new k.later f in
+                marks_append a new h.marks k.marks
+                ∙ ap (λ r. r ++ true_edges a new k.marks) (marks_later mid new a h.marks k.later h.marks_there ∙ w.edges a dead f1)
+                ∙ ap (λ r. live_edges flat q dead (gs a) (start a) ++ r) (b.edges a dead f ∙ alike_out flat q dead (g a) (es a) fs (w.alike a dead f1))
+                ∙ sym (ap (λ (x : List Given). live_edges flat q dead x (start a)) (row a) ∙ live_push flat q dead (gs a) (g a) (start a));
+            places = λ a dead f.
+                let fs = fold flat q dead (gs a) (start a) in
+                let f1 = fits_before a mid new k.later f in
+                let sn = seen flat q dead (gs a) (start a) in
+                placed_append a new h.sites k.sites
+                ∙ ap (λ r. r ++ true_sites a new k.sites) (placed_later mid new a h.sites k.later h.sites_there ∙ w.places a dead f1)
+                ∙ ap (λ r. all_places flat q sn ++ r) (b.places a dead f ∙ alike_places flat q dead (g a) (es a) fs (w.alike a dead f1))
+                ∙ sym (ap (λ (x : List Given). all_places flat q (seen flat q dead x (start a))) (row a) ∙ ap (all_places flat q) (seen_push flat q dead (gs a) (g a) (start a)) ∙ places_push flat q sn (seen_at dead (g a) fs));
+            signed = signed_both flat new h.sites k.sites (signed_later flat mid new h.sites k.later w.signed) b.signed;
+            calls = λ a dead f.
+                let fs = fold flat q dead (gs a) (start a) in
+                let f1 = fits_before a mid new k.later f in
+                let sn = seen flat q dead (gs a) (start a) in
+                let here : SameCalls (map (site_value a new) k.sites) (passages_seen flat q (seen_at dead (g a) fs)) =
                 alike_calls flat q dead (g a) (es a) fs (map (site_value a new) k.sites) (w.alike a dead f1) (b.calls a dead f) in
-            let past : SameCalls (map (site_value a new) h.sites) (all_passages flat q sn) =
+                let past : SameCalls (map (site_value a new) h.sites) (all_passages flat q sn) =
                 subst (λ (ms : List SiteMeans). SameCalls ms (all_passages flat q sn)) (sym (sites_later mid new a h.sites k.later h.sites_there)) (w.calls a dead f1) in
-            subst (λ (x : List Given). SameCalls (map (site_value a new) (h.sites ++ k.sites)) (all_passages flat q (seen flat q dead x (start a)))) (sym (row a))
-            (subst (λ (ps : List Passage). SameCalls (map (site_value a new) (h.sites ++ k.sites)) ps) (sym (ap (all_passages flat q) (seen_push flat q dead (gs a) (g a) (start a)) ∙ passages_push flat q sn (seen_at dead (g a) fs)))
-            (subst (λ (ms : List SiteMeans). SameCalls ms (all_passages flat q sn ++ passages_seen flat q (seen_at dead (g a) fs))) (sym (map-append (site_value a new) h.sites k.sites))
-                (same_both (map (site_value a new) h.sites) (map (site_value a new) k.sites) (all_passages flat q sn) (passages_seen flat q (seen_at dead (g a) fs)) past here))) } }
+                subst (λ (x : List Given). SameCalls (map (site_value a new) (h.sites ++ k.sites)) (all_passages flat q (seen flat q dead x (start a)))) (sym (row a))
+                (subst (λ (ps : List Passage). SameCalls (map (site_value a new) (h.sites ++ k.sites)) ps) (sym (ap (all_passages flat q) (seen_push flat q dead (gs a) (g a) (start a)) ∙ passages_push flat q sn (seen_at dead (g a) fs)))
+                (subst (λ (ms : List SiteMeans). SameCalls ms (all_passages flat q sn ++ passages_seen flat q (seen_at dead (g a) fs))) (sym (map-append (site_value a new) h.sites k.sites))
+                (same_both (map (site_value a new) h.sites) (map (site_value a new) k.sites) (all_passages flat q sn) (passages_seen flat q (seen_at dead (g a) fs)) past here)));
+          };
+    }
 
 orders_count : (flat : Limited) (q : FlatProc) (order : List ℕ) → length (passive_blocks flat q order) ≡ length order
 orders_count flat q [] = refl
@@ -268,12 +287,20 @@ went_whole cs spare old new d e edges edges1 first waits bs i l h =
     let all = take_all bs i l in
     record {
       later = h.later;
-      marks = h.marks; marks_are = h.marks_are; marks_there = h.marks_there; sites = h.sites; sites_are = h.sites_are; sites_there = h.sites_there;
-      asserts = h.asserts; asserts_are = h.asserts_are; asserts_there = h.asserts_there;
+      marks = h.marks;
+      marks_are = h.marks_are;
+      marks_there = h.marks_there;
+      sites = h.sites;
+      sites_are = h.sites_are;
+      sites_there = h.sites_there;
+      asserts = h.asserts;
+      asserts_are = h.asserts_are;
+      asserts_there = h.asserts_there;
       next = h.next ∙ ap (λ xs. d.next + length (blocks_sorts xs)) all;
       numbers = h.numbers ∙ ap (λ xs. variables_in old ++ numbers_from d.next (length (blocks_sorts xs))) all;
       fit = λ a f k. h.fit a f (ap (λ xs. sorted_as (blocks_sorts xs) (reads a d.next (length (blocks_sorts xs)))) all ∙ k);
       stage = h.stage;
       says = λ flat q order are there st fit.
-        let n : length order ≤ i = omega (arith, l, ap length are, orders_count flat q order) in
-        subst (λ (ns : List ℕ). WentSays flat q ns cs old d first new e waits h.marks h.sites) (take_all order i n) (h.says flat q order are there st fit) }
+          let n : length order ≤ i = omega (arith, l, ap length are, orders_count flat q order) in
+          subst (λ (ns : List ℕ). WentSays flat q ns cs old d first new e waits h.marks h.sites) (take_all order i n) (h.says flat q order are there st fit);
+    }

@@ -71,8 +71,8 @@ step_zero_pushed cs block old new d v t s vs r is at_end p =
     let node = zero_node s in
     let behind = zero_behind old s r.stands.sound r.fit.1 in
     step_zero cs block old d new v t s vs r (later_push old new node s behind is) (plain_push old new node (zero_below s) (zero_fits s) is)
-        (ap (λ (ns : List TermNode). sort_at ns t) is ∙ ap (sort_at (old ++ node ∷ [])) at_end ∙ sort_added old node s behind)
-        (λ a. ap (λ (ns : List TermNode). value a ns t) is ∙ ap (value a (old ++ node ∷ [])) at_end ∙ value-new a old node ∙ zero_value s a (values a old)) p
+    (ap (λ (ns : List TermNode). sort_at ns t) is ∙ ap (sort_at (old ++ node ∷ [])) at_end ∙ sort_added old node s behind)
+    (λ a. ap (λ (ns : List TermNode). value a ns t) is ∙ ap (value a (old ++ node ∷ [])) at_end ∙ value-new a old node ∙ zero_value s a (values a old)) p
 
 -- the sort of a new variable's value
 one_has : (a : ℕ → Value) (new : List TermNode) (t : ℕ) (s : Sort) (v : Value) → IsTrue (fits a new) → sort_at new t ≡ Some s → v ≡ value a new t → has_sort v s ≡ true
@@ -92,17 +92,34 @@ step_free cs block old new d e v t s r w p =
     let cond_is : e.cond ≡ d.cond = ap (λ (x : Draft). x.cond) w.draft_is in
     let fails_is : e.fails ≡ d.fails = ap (λ (x : Draft). x.fails) w.draft_is in
     record {
-      later = w.later; more = t ∷ []; versions = p; are = (sorted, tt);
-      cond = ap (sort_at new) cond_is ∙ sort_later old new d.cond bool_sort w.later st.cond; fails = ap (sort_at new) fails_is ∙ sort_later old new d.fails bool_sort w.later st.fails;
-      next = ap (λ (x : Draft). x.next) w.draft_is; below = w.below;
-      sites = []; sites_there = tt; sites_of = tt; sites_behind = ap (λ (x : Draft). x.sites) w.draft_is ∙ sym (append-nil d.sites);
-      numbered = refl; calls = omega (arith, ap (λ (x : Draft). x.calls) w.draft_is); variables = fresh_numbers old new d e (s ∷ []) w; asserts = []; asserts_there = tt; asserts_behind = ap (λ (x : Draft). x.asserts) w.draft_is ∙ sym (append-nil d.asserts);
+      later = w.later;
+      more = t ∷ [];
+      versions = p;
+      are = (sorted, tt);
+      cond = ap (sort_at new) cond_is ∙ sort_later old new d.cond bool_sort w.later st.cond;
+      fails = ap (sort_at new) fails_is ∙ sort_later old new d.fails bool_sort w.later st.fails;
+      next = ap (λ (x : Draft). x.next) w.draft_is;
+      below = w.below;
+      sites = [];
+      sites_there = tt;
+      sites_of = tt;
+      sites_behind = ap (λ (x : Draft). x.sites) w.draft_is ∙ sym (append-nil d.sites);
+      numbered = refl;
+      calls = omega (arith, ap (λ (x : Draft). x.calls) w.draft_is);
+      variables = fresh_numbers old new d e (s ∷ []) w;
+      asserts = [];
+      asserts_there = tt;
+      asserts_behind = ap (λ (x : Draft). x.asserts) w.draft_is ∙ sym (append-nil d.asserts);
       says = λ a consts vals f m.
-        let is : vals v ≡ value a new t = m.each v t (ap (λ xs. slice_get xs v) p ∙ pushed_at d.versions t v (length r.vsorts) r.fit.0 (are_count old d.versions r.vsorts st.versions)) in
-        let read : value a new t ∷ [] ≡ reads a d.next 1 = ap (map (at (values a new))) (sym more_is) ∙ w.read a in
-        record {
-          defined = (one_has a new t s (vals v) f sorted is, tt);
-          on = ap (λ i. is_on (value a new i)) cond_is ∙ bit_later old new a d.cond w.later st.cond;
-          fails = ap (λ i. is_on (value a new i)) fails_is ∙ bit_later old new a d.fails w.later st.fails ∙ or_false (is_on (value a old d.fails));
-          inputs_are = ap (λ x. x ∷ []) is ∙ read; sites_are = refl; asserts_are = refl };
-      fit = λ a f k. w.fit a f k }
+          let is : vals v ≡ value a new t = m.each v t (ap (λ xs. slice_get xs v) p ∙ pushed_at d.versions t v (length r.vsorts) r.fit.0 (are_count old d.versions r.vsorts st.versions)) in
+          let read : value a new t ∷ [] ≡ reads a d.next 1 = ap (map (at (values a new))) (sym more_is) ∙ w.read a in
+          record {
+            defined = (one_has a new t s (vals v) f sorted is, tt);
+            on = ap (λ i. is_on (value a new i)) cond_is ∙ bit_later old new a d.cond w.later st.cond;
+            fails = ap (λ i. is_on (value a new i)) fails_is ∙ bit_later old new a d.fails w.later st.fails ∙ or_false (is_on (value a old d.fails));
+            inputs_are = ap (λ x. x ∷ []) is ∙ read;
+            sites_are = refl;
+            asserts_are = refl;
+          };
+      fit = λ a f k. w.fit a f k;
+    }

@@ -97,8 +97,15 @@ zero_node (MapSort index elem) = ZeroMap index elem
 -- what the terms of a site mean
 abbrev pub site_value : (ℕ → Value) → List TermNode → SiteTerm → SiteMeans
 site_value a nodes s = record {
-  proc = s.proc; on = is_on (value a nodes s.node); args = map (at (values a nodes)) s.args; before = map (at (values a nodes)) s.globals_before;
-  outs = map (at (values a nodes)) s.outs; changed = map (at (values a nodes)) s.changed; after = map (at (values a nodes)) s.globals_after; fails = is_on (value a nodes s.fails) }
+  proc = s.proc;
+  on = is_on (value a nodes s.node);
+  args = map (at (values a nodes)) s.args;
+  before = map (at (values a nodes)) s.globals_before;
+  outs = map (at (values a nodes)) s.outs;
+  changed = map (at (values a nodes)) s.changed;
+  after = map (at (values a nodes)) s.globals_after;
+  fails = is_on (value a nodes s.fails);
+}
 
 abbrev pub fail_value : (ℕ → Value) → List TermNode → FailTerm → FailMeans
 fail_value a nodes f = record { block = f.block; position = f.position; fails = is_on (value a nodes f.node) }

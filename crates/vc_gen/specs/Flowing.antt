@@ -77,7 +77,7 @@ pub record BlockSays (flat : Limited) (q : FlatProc) (n : ℕ) (cs : List ℕ) (
       is_on (value a new e.fails) ≡ (is_on (value a old d.fails) || breaks_seen flat q (seen_at dead (given_at flat q a d.next n) (edges_at a old (all_at a old cs) waits)))
   pub edges : (a : ℕ → Value) (dead : Env) → IsTrue (fits a new) →
       true_edges a new marks ≡ edges_out n (through flat q (given_at flat q a d.next n) (entered n dead (edges_at a old (all_at a old cs) waits))) (reached n (edges_at a old (all_at a old cs) waits)) (slice_get q.blocks n)
-          (given_at flat q a d.next n).choices
+      (given_at flat q a d.next n).choices
   pub calls : (a : ℕ → Value) (dead : Env) → IsTrue (fits a new) →
       SameCalls (map (site_value a new) sites) (passages_seen flat q (seen_at dead (given_at flat q a d.next n) (edges_at a old (all_at a old cs) waits)))
   pub places : (a : ℕ → Value) (dead : Env) → IsTrue (fits a new) →

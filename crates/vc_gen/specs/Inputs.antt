@@ -66,7 +66,8 @@ given_at flat q a k n = record {
   number = n;
   values = values_in (items_at flat q n) (reads a k (length (chosen (items_at flat q n))));
   results = results_in (items_at flat q n) (reads a k (length (chosen (items_at flat q n))));
-  choices = map is_on (reads a (k + length (chosen (items_at flat q n))) (choices_at q n)) }
+  choices = map is_on (reads a (k + length (chosen (items_at flat q n))) (choices_at q n));
+}
 
 abbrev pub givens_at : Limited → FlatProc → (ℕ → Value) → ℕ → List ℕ → List Given
 givens_at flat q a k [] = []

@@ -38,8 +38,10 @@ all_at a nodes ts = map (at (values a nodes)) ts
 -- an edge of the terms, under an assignment
 abbrev pub edge_at : (ℕ → Value) → List TermNode → List Value → Wait → Edge
 edge_at a nodes consts w = record {
-  target = w.target; live = is_on (value a nodes w.live);
-  env = record { consts = consts; globals = all_at a nodes w.globals; locals = all_at a nodes w.locals } }
+  target = w.target;
+  live = is_on (value a nodes w.live);
+  env = record { consts = consts; globals = all_at a nodes w.globals; locals = all_at a nodes w.locals };
+}
 
 abbrev pub edges_at : (ℕ → Value) → List TermNode → List Value → List Wait → List Edge
 edges_at a nodes consts ws = map (edge_at a nodes consts) ws
@@ -170,7 +172,7 @@ pub record FailAnswers (a b : ℕ → Value) (k : ℕ) (nodes : List TermNode) (
   pub fails_is : is_on (value b nodes fails) ≡ true
   pub passed_are : edges_of (0 ∷ path) places ≡ true_edges b nodes edges
   pub calls_are : calls ≡ asked (map (site_value b nodes) sites)
-  pub results_are : map blame results ≡ map blame (given_back (map (site_value b nodes) sites))      -- but for the assert that a callee fails in
+  pub results_are : map blame results ≡ map blame (given_back (map (site_value b nodes) sites))  -- but for the assert that a callee fails in
 
 abbrev pub FailsComplete : Limited → FlatProc → List ℕ → Actuals → ℕ → List TermNode → List TermNode → ℕ → List EdgeTerm → List SiteTerm → Type 0
 FailsComplete flat q order actuals k old nodes fails edges sites =

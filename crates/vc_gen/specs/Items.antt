@@ -151,9 +151,15 @@ site_by consts vals on (Free v s) = []
 site_by consts vals on (Need e) = []
 site_by consts vals on (Check p e) = []
 site_by consts vals on (Site p f args before outs changes after) = record {
-  proc = p; on = on; args = eval_all (look_at consts vals) args; before = map vals before; outs = map vals (outs_from f outs);
-  changed = map vals (after_from f outs after); after = replaced changes (map vals before) (map vals (after_from f outs after));
-  fails = on && is_on (vals f) } ∷ []
+  proc = p;
+  on = on;
+  args = eval_all (look_at consts vals) args;
+  before = map vals before;
+  outs = map vals (outs_from f outs);
+  changed = map vals (after_from f outs after);
+  after = replaced changes (map vals before) (map vals (after_from f outs after));
+  fails = on && is_on (vals f);
+} ∷ []
 
 abbrev pub sites_in : List Value → (ℕ → Value) → Bool → List Item → List SiteMeans
 sites_in consts vals on [] = []

@@ -12,11 +12,17 @@ use crate::going::pass;
 use crate::parts::{Draft, SiteTerm};
 use hy_term::Terms;
 use hy_val::{Expr, Scalar, Sort};
-use sqlite_items::{at, Items};
+use sqlite_items::{Items, at};
 use std::alloc::{AllocError, Global};
 
 // The terms of the arguments.
-fn translate_all(alloc: Global, terms: &mut Terms, consts: &[usize], versions: &[usize], args: &[Expr]) -> Result<Items<usize>, AllocError>
+fn translate_all(
+    alloc: Global,
+    terms: &mut Terms,
+    consts: &[usize],
+    versions: &[usize],
+    args: &[Expr],
+) -> Result<Items<usize>, AllocError>
     requires ready { ArgsReady terms.old.nodes consts.now versions.now args.now }
     ensures later { Later terms.old.nodes terms.new.nodes }
     ensures say { IfOk result (λ ts. ArgsSay terms.old.nodes consts.now versions.now args.now terms.new.nodes ts) }
@@ -30,7 +36,11 @@ fn translate_all(alloc: Global, terms: &mut Terms, consts: &[usize], versions: &
 }
 
 // The terms of versions.
-pub(crate) fn terms_of(alloc: Global, versions: &[usize], own: &[u32]) -> Result<Items<usize>, AllocError>
+pub(crate) fn terms_of(
+    alloc: Global,
+    versions: &[usize],
+    own: &[u32],
+) -> Result<Items<usize>, AllocError>
     ensures { IfOk result (λ ts. ts ≡ terms_of versions.now own.now) }
 {
     let mut found = Items::new(alloc);
@@ -51,7 +61,14 @@ fn is_marked(changes: &[bool], number: usize) -> bool
 }
 
 // The term of one more global behind a call. The answer says how many of the new ones are used.
-fn push_behind(found: &mut Items<usize>, changes: &[bool], before: &[usize], changed: &[usize], index: usize, used: usize) -> Result<usize, AllocError>
+fn push_behind(
+    found: &mut Items<usize>,
+    changes: &[bool],
+    before: &[usize],
+    changed: &[usize],
+    index: usize,
+    used: usize,
+) -> Result<usize, AllocError>
     requires index { index < length before.now }
     requires behind { Behind changes.now before.now changed.now index used found.old }
     ensures { IfOk result (λ next. Behind changes.now before.now changed.now (index + 1) next found.new) }
@@ -69,7 +86,12 @@ fn push_behind(found: &mut Items<usize>, changes: &[bool], before: &[usize], cha
 }
 
 // The terms of all globals behind a call: new ones for those that the callee may change.
-fn globals_behind(alloc: Global, changes: &[bool], before: &[usize], changed: &[usize]) -> Result<Items<usize>, AllocError>
+fn globals_behind(
+    alloc: Global,
+    changes: &[bool],
+    before: &[usize],
+    changed: &[usize],
+) -> Result<Items<usize>, AllocError>
     ensures { IfOk result (λ ts. ts ≡ replaced changes.now before.now changed.now) }
 {
     let mut found = Items::new(alloc);
@@ -115,7 +137,12 @@ pub(crate) fn emit_site(
     let holds = negated(terms, bit)?;
     let node = draft.cond;
     let fails = pass(terms, draft, holds, bit)?;
-    let globals_after = globals_behind(alloc, changes, globals_before.as_slice(), changed.as_slice())?;
+    let globals_after = globals_behind(
+        alloc,
+        changes,
+        globals_before.as_slice(),
+        changed.as_slice(),
+    )?;
     let calls = next_call(draft.calls)?;
     draft.sites.push(SiteTerm {
         block,
