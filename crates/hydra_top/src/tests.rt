@@ -1,8 +1,5 @@
 //! What the program prints on files and words.
 
-mod flow;
-mod typing;
-
 use super::*;
 use hy_outside::{MemShelf, MemSink, Turn};
 use hy_text::{Bytes, Text};
@@ -18,11 +15,7 @@ const GROUPED: &[u8] =
 
 const FALSE: &[u8] = b"procedure main() { assert false; assume false; }\n";
 
-// An axiom in 201 pairs of parentheses.
-const DEEP: &[u8] =
-    b"axiom (((((((((((((((((((((((((((((((((((((((((((((((((((((((((((((((((((((((((((((((((((((((((((((((((((((((((((((((((((((((((((((((((((((((((((((((((((((((((((((((((((((((((((((((((((((((((((((((((((((((((true)))))))))))))))))))))))))))))))))))))))))))))))))))))))))))))))))))))))))))))))))))))))))))))))))))))))))))))))))))))))))))))))))))))))))))))))))))))))))))))))))))))))))))))))))))))))))))))))))))))))));";
-
-// The same in 200 pairs.
+// An axiom in 200 pairs of parentheses.
 const WITHIN: &[u8] =
     b"axiom ((((((((((((((((((((((((((((((((((((((((((((((((((((((((((((((((((((((((((((((((((((((((((((((((((((((((((((((((((((((((((((((((((((((((((((((((((((((((((((((((((((((((((((((((((((((((((((((((((((((((true))))))))))))))))))))))))))))))))))))))))))))))))))))))))))))))))))))))))))))))))))))))))))))))))))))))))))))))))))))))))))))))))))))))))))))))))))))))))))))))))))))))))))))))))))))))))))))))))))))))));";
 
@@ -46,18 +39,6 @@ fn run(
     let mut out = MemSink::new(alloc, room, Vec::from_slice(alloc, sink_turns)?)?;
     let report = run_solo(alloc, texts.as_slice(), &mut shelf, &mut out);
     Ok((report.status, out))
-}
-
-// The first of some texts on which `solo`, with the entry `main`, prints something else than what stands beside it.
-fn differs(alloc: Global, cases: &[(&[u8], &[u8])]) -> Result<Option<usize>, AllocError> {
-    let words = ["solo", "f", "main", "1"];
-    for (index, (bytes, printed)) in cases.iter().enumerate() {
-        let (_, out) = run(alloc, &words, bytes, &[], 1000, &[])?;
-        if out.held() != *printed {
-            return Ok(Some(index));
-        }
-    }
-    Ok(None)
 }
 
 #[test]
@@ -163,37 +144,6 @@ fn faults_are_told(rt: HostRuntime) -> Result<(), Fail> {
         let (ended, out) = run(rt.alloc(), &words, ASSUMED, &[], room, turns)?;
         assert_eq!(rt; ended, 5);
         assert_eq!(rt; out.held(), held);
-    }
-    Ok(())
-}
-
-#[test]
-fn faults_of_a_text_are_told(rt: HostRuntime) -> Result<(), Fail> {
-    let words = ["solo", "f", "main", "1"];
-    let cases: [(&[u8], &[u8]); 9] = [
-        (b"var x: int;", b"refused: parse 7 left out integer\n"),
-        (
-            b"axiom true && true || false;",
-            b"refused: parse 19 unexpected\n",
-        ),
-        (
-            b"axiom 7bv65 == 7bv65;",
-            b"refused: lex 6 literal too wide\n",
-        ),
-        (DEEP, b"refused: parse 206 too deep\n"),
-        (b"/* /* */", b"refused: lex 0 open comment\n"),
-        (b"axiom @;", b"refused: lex 6 bad byte\n"),
-        (b"axiom {:x \"abc", b"refused: lex 10 open string\n"),
-        (b"axiom true", b"refused: parse 10 end too soon\n"),
-        (
-            b"var m: [bool, bool]bool;",
-            b"refused: parse 12 left out several indexes\n",
-        ),
-    ];
-    for (bytes, printed) in cases {
-        let (ended, out) = run(rt.alloc(), &words, bytes, &[], 100, &[])?;
-        assert_eq!(rt; ended, 3);
-        assert_eq!(rt; out.held(), printed);
     }
     Ok(())
 }

@@ -1,0 +1,1 @@
+function h(): bool { f() } function f(): bool { g() } function g(): bool { f() }

@@ -1,0 +1,1 @@
+procedure p(b: bool); procedure main() { call p(1bv8); }

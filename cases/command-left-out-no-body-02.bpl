@@ -1,0 +1,1 @@
+procedure p(); procedure main() { call p(); }

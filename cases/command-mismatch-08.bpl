@@ -1,0 +1,1 @@
+procedure main() { assume 1bv8; }

@@ -1,0 +1,1 @@
+procedure main() { if (1bv8) { } }

@@ -1,0 +1,1 @@
+procedure main() { while (1bv8) { } }

@@ -1,0 +1,1 @@
+procedure main() { while (*) invariant 1bv8; { } }

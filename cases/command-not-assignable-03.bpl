@@ -1,0 +1,1 @@
+procedure main(a: bool) { call a := p(); }

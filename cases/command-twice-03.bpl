@@ -1,0 +1,1 @@
+procedure p() returns (a: bool, b: bool) { } procedure main() { var x: bool; call x, x := p(); }

@@ -1,0 +1,1 @@
+const c: bool; procedure main() { }

@@ -1,0 +1,1 @@
+var x: bv8; procedure main() { }

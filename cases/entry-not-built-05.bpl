@@ -1,0 +1,1 @@
+procedure main() { var x: bv1; }

@@ -1,0 +1,1 @@
+procedure main() returns (x: bv1) { }

@@ -1,0 +1,1 @@
+function f(b: bv8): bool; axiom f(true);

@@ -1,0 +1,1 @@
+function g(): bool; function f(): bool { g() }

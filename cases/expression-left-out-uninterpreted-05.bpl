@@ -1,0 +1,1 @@
+function {:bvbuiltin "bvnone"} f(a: bv8): bv8; axiom f(1bv8) == 1bv8;

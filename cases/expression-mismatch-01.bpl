@@ -1,0 +1,1 @@
+function f(b: bv8): bool { true } axiom f(true);

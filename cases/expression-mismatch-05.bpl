@@ -1,0 +1,1 @@
+axiom 1bv8 ++ true == 0bv1;

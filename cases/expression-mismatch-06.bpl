@@ -1,0 +1,1 @@
+axiom true && 1bv8 && 2bv8;

@@ -1,0 +1,1 @@
+axiom true[1:0] == 0bv1;

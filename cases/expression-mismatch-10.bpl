@@ -1,0 +1,1 @@
+axiom if true then true else 1bv8;

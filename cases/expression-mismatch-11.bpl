@@ -1,0 +1,1 @@
+axiom if 1bv8 then true else true;

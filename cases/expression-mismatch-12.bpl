@@ -1,0 +1,1 @@
+function f(): bool { 1bv8 }

@@ -1,0 +1,1 @@
+const m: [bool]bool; axiom m[1bv8];

@@ -1,0 +1,1 @@
+function f(): bool { true } axiom f(a);

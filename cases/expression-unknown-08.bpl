@@ -1,0 +1,1 @@
+function f(b: bool): bool; axiom f(a);

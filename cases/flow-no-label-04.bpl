@@ -1,0 +1,1 @@
+procedure p(); procedure q() { goto A; } implementation p() { goto B; }

@@ -1,0 +1,1 @@
+procedure main() { goto A, B; A: goto B; B: goto A; }

@@ -1,0 +1,1 @@
+procedure main() { A: goto A; }

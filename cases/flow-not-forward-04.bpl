@@ -1,0 +1,1 @@
+procedure main() { while (*) { goto A; } while (*) { A: } }

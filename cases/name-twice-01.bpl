@@ -1,0 +1,1 @@
+var a: bool; var a: bool;

@@ -1,0 +1,1 @@
+const a: bool; var a: bool;

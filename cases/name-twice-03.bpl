@@ -1,0 +1,1 @@
+type T = bool; type T = bv8;

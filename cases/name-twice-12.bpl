@@ -1,0 +1,1 @@
+function {:bvbuiltin} f(): bool { true }

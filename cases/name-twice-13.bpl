@@ -1,0 +1,1 @@
+function {:bvbuiltin 1} f(): bool { true }

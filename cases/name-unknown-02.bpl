@@ -1,0 +1,1 @@
+axiom a; procedure p(); modifies b;

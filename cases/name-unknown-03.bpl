@@ -1,0 +1,1 @@
+function f(): bool { f() } axiom a;

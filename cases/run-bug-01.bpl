@@ -1,0 +1,1 @@
+procedure main() returns (r: bool) { var l: bool; havoc l; assert l; }

@@ -1,0 +1,1 @@
+var x, y: bool; procedure main() modifies x, y; { havoc y, x; assume y; assert x; }

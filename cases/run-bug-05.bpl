@@ -1,0 +1,1 @@
+procedure main() returns (a: bool); implementation main() returns (b: bool) { assert b; }

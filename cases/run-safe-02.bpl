@@ -1,0 +1,1 @@
+procedure main() { assert 1bv8 ++ 2bv8 == 258bv16; }

@@ -1,0 +1,1 @@
+procedure p(a: bv8) { call p(a); } procedure main() { }

@@ -1,0 +1,1 @@
+type S = T; type T = T;

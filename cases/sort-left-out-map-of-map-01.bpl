@@ -1,0 +1,1 @@
+var m: [[T]bool]bool;

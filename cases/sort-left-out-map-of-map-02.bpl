@@ -1,0 +1,1 @@
+var m: [bool][bool]bool;

@@ -1,0 +1,1 @@
+type T = [bool]bool; var m: [T]bool;

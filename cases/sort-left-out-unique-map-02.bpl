@@ -1,0 +1,1 @@
+const unique c: [bool]bool;

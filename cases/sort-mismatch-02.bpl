@@ -1,0 +1,1 @@
+procedure p() returns (a: bool); implementation p() returns (a: bv8) { }

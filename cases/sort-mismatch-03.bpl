@@ -1,0 +1,1 @@
+function {:bvbuiltin "bvadd"} f(a: bv8): bv8;

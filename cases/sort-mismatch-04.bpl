@@ -1,0 +1,1 @@
+function {:bvbuiltin "bvnot"} f(a: bool): bool;

@@ -1,0 +1,1 @@
+const x: bool; procedure p(); modifies x;

@@ -1,0 +1,1 @@
+const c: bv8; function f(c: bool): bool { c }

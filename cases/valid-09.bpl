@@ -1,0 +1,1 @@
+procedure p() { A: B: while (*) { break B; } }

@@ -1,0 +1,1 @@
+procedure p() { while (*) { goto A; A: } }

@@ -1,0 +1,1 @@
+const c: bool; axiom c; var x: bv8;
