@@ -1,6 +1,6 @@
 -- All values of a question's variables can be had.
 use Rattle.std.proofs.Common.{◌≡◌, ℕ, zero, suc, ◌+◌, ◌<◌, ◌≤◌, Bool, true, false, ◌&&◌, List, [], ◌∷◌, ◌++◌, map, length, length-append, refl, sym, ap, ◌∙◌, subst, arith, true≢false, inl, inr, ◌⊎◌, ⊎_elim}
-use Rattle.std.specs.Prelude.{Option, None, Some, is_some, slice_get, slice_index, IsSome, IsTrue, if◌then◌else◌}
+use Rattle.std.specs.Prelude.{Option, None, Some, is_some, nat_eq, slice_get, slice_index, IsSome, IsTrue, if◌then◌else◌}
 use Rattle.std.specs.Option.{option_and_then}
 use Rattle.std.proofs.lemmas.Bool.{and_parts, and_from}
 use Rattle.std.proofs.lemmas.Option.{slice_get_within}
@@ -32,7 +32,7 @@ use Rattle.tree_words.specs.Template.{Stands, Agrees, node_values, bool_value, c
 use Rattle.tree_terms.specs.Standing.{all_at, AreOf}
 use Rattle.tree_words.specs.Linking.{walk, number_or, number, is_node_of, put_at, place_at, template_at, globals_of, args_of, proc_of, first_at, role_or, sites_by, GlobalIs, InIs, IsThere, IsFilled}
 use Rattle.tree_words.specs.Stands.{Assigns, ins_at}
-use Rattle.tree_words.specs.Filling.{if_own, own_node, own_nodes, own_fits, comes_back, free_fits, call_fits, SiteIsOf, IsBack, IsSigned}
+use Rattle.tree_words.specs.Filling.{if_own, own_node, own_nodes, own_fits, comes_back, free_fits, request_fits, call_fits, SiteIsOf, IsBack, IsSigned}
 use Rattle.tree_words.specs.Assigning.{ArePaths, IsBase}
 use Rattle.tree_words.proofs.Linking.{in_tree, stands_at, walk_snoc, some_number, got}
 use Rattle.tree_words.proofs.Filling.{bool_is, frees_by, variable_has}
@@ -228,9 +228,9 @@ module _ (keep : EachValueHasItsSort) (flat : FlatProgram) (entry : ℕ) (q : Li
       frees = frees_by keep flat entry q track base into places f s.a filled signed linked done grows ok fit chosen chosen_fits;
     }
 
-  pub assigns : IsBase flat entry q base → (vs : List Value) (root : Request) → have_sorts vs flat.consts ≡ true → root.proc ≡ entry → call_fits flat [] root ≡ true
+  pub assigns : IsBase flat entry q base → (vs : List Value) (root : Request) → have_sorts vs flat.consts ≡ true → root.proc ≡ entry → call_fits flat q entry [] root ≡ true
       → Assigns (is_node_of q) f (template_at q track) (put_at q places) q.consts (λ p. globals_of q places (number q p)) (λ p. args_of q places (number q p)) (λ p. proc_of q entry (number q p))
       (free_fits flat q) vs root own chosen
   assigns at_base vs root consts_fit proc_is call_ok =
-      let b = at_base vs root consts_fit proc_is call_ok in
+      let b = at_base vs root consts_fit proc_is (and_parts (nat_eq root.proc (proc_of q entry (number q []))) (request_fits flat root) call_ok).1 in
       assigned b.0 (done.copying.assigns b.0 w b.1 have) vs root proc_is b.2 b.3 b.4

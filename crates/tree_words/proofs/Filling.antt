@@ -1,6 +1,6 @@
 -- Values of the variables of a question have their sorts.
 use Rattle.std.proofs.Common.{◌≡◌, ℕ, zero, suc, ◌+◌, ◌<◌, ◌≤◌, Bool, true, false, ◌&&◌, List, [], ◌∷◌, ◌++◌, map, length, refl, sym, ap, ◌∙◌, subst, arith, true≢false, inl, inr, ◌⊎◌, ⊎_elim}
-use Rattle.std.specs.Prelude.{Option, None, Some, is_some, slice_get, slice_index, IsSome, IsTrue, if◌then◌else◌}
+use Rattle.std.specs.Prelude.{Option, None, Some, is_some, nat_eq, slice_get, slice_index, IsSome, IsTrue, if◌then◌else◌}
 use Rattle.std.proofs.lemmas.Bool.{and_parts, and_from}
 use Rattle.std.proofs.lemmas.Option.{slice_get_within}
 use Rattle.hy_val.specs.declared.sort.Sort.{Sort}
@@ -17,6 +17,7 @@ use Rattle.hy_term.specs.Laws.{EachValueHasItsSort}
 use Rattle.hy_term.specs.declared.node.TermNode.{TermNode}
 use Rattle.hy_term.specs.declared.node.TermNode.TheVariants.{Lit, ZeroMap, Variable, Unary, Binary, If, Select, Store}
 use Rattle.hy_term.proofs.Growing.{node_values as value_of_node}
+use Rattle.hy_term.proofs.Numbering.{same_number}
 use Rattle.flat_prog.specs.Program.{FlatProgram, outs_at}
 use Rattle.flat_prog.specs.Local.{Track, Request, have_sorts, can_come_back}
 use Rattle.tree_terms.specs.Copies.{IsPart}
@@ -36,7 +37,7 @@ use Rattle.tree_words.specs.Template.{Stands, Agrees, node_values, bool_value, c
 use Rattle.tree_terms.specs.Standing.{all_at, AreOf}
 use Rattle.tree_words.specs.Linking.{number, is_node_of, put_at, place_at, template_at, globals_of, args_of, proc_of, first_at, role_or, sites_by, outs_by, globals_by, before_by, args_by, proc_by, IsFilled}
 use Rattle.tree_words.specs.Stands.{ins_at, args_fit, SortsHold, views_at}
-use Rattle.tree_words.specs.Filling.{if_own, own_node, own_nodes, own_fits, comes_back, free_fits, call_fits, back_by, back_of, SiteIsOf, IsBack, IsSigned}
+use Rattle.tree_words.specs.Filling.{if_own, own_node, own_nodes, own_fits, comes_back, free_fits, request_fits, call_fits, back_by, back_of, SiteIsOf, IsBack, IsSigned}
 use Rattle.tree_words.proofs.Bridge.{at_map}
 use Rattle.tree_words.proofs.Linking.{in_tree, kid_is, stands_at}
 
@@ -220,14 +221,16 @@ module _ (keep : EachValueHasItsSort) (flat : FlatProgram) (entry : ℕ) (q : Li
   agree_by p j n sort here is Own b = refl
 
   pub sorts_hold : SortsHold flat (is_node_of q) f (template_at q track) (put_at q places) q.consts (λ p. globals_of q places (number q p)) (λ p. args_of q places (number q p)) (λ p. proc_of q entry (number q p))
-      (own_fits q) (free_fits flat q) (call_fits flat) (back_of q places f.nodes a) a
+      (own_fits q) (free_fits flat q) (call_fits flat q entry) (back_of q places f.nodes a) a
   sorts_hold = record {
     consts_fit = base_have q.consts flat.consts signed.consts;
     owns = λ p here. either (is_node_of q p) (own_nodes (λ n. role_or (role_of q (number q p) n)) (node_values a f.nodes (put_at q places) p) (nodes_of q (number q p)))
         (λ e. make_own (λ n. role_or (role_of q (number q p) n)) (node_values a f.nodes (put_at q places) p) (nodes_of q (number q p)) (variable_has p here));
     frees = frees_by (back_of q places f.nodes a) back_fits;
     calls = λ p here. let k = calls_at (number q p) (in_tree q track entry base into places filled done p here) in
-        and_from (have_sorts (all_at a f.nodes (globals_of q places (number q p))) flat.globals) (args_fit flat (proc_of q entry (number q p)) (all_at a f.nodes (args_of q places (number q p)))) k.0 k.1;
+        and_from (nat_eq (proc_of q entry (number q p)) (proc_of q entry (number q p))) (request_fits flat (called_with a f.nodes (λ p. globals_of q places (number q p)) (λ p. args_of q places (number q p)) (λ p. proc_of q entry (number q p)) p))
+        (same_number (proc_of q entry (number q p)))
+        (and_from (have_sorts (all_at a f.nodes (globals_of q places (number q p))) flat.globals) (args_fit flat (proc_of q entry (number q p)) (all_at a f.nodes (args_of q places (number q p)))) k.0 k.1);
     agrees = λ p here n stands.
         let m = number q p in
         let v = stands_at n (nodes_of q m) stands in

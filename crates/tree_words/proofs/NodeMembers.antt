@@ -48,7 +48,7 @@ pub nodes_are_members : NodesAreRuns → MadeAreQuestions → MembersAreRead →
 nodes_are_members runs questions read flat entry changes is_open blocked height piece q base f places path reach may callee made tree names sound complete =
     let question = questions flat entry is_open blocked (free_by changes) height piece q track_by base f places path reach may callee made tree names sound complete in
     let both = read flat entry (is_node_of q) is_open blocked (free_by changes) height piece f (template_at q track_by) (put_at q places) (place_at q places) q.consts (λ p. globals_of q places (number q p))
-    (λ p. args_of q places (number q p)) (λ p. proc_of q entry (number q p)) callee (own_fits q) (free_fits flat q) (call_fits flat) (λ a. back_of q places f.nodes a) question in (
+    (λ p. args_of q places (number q p)) (λ p. proc_of q entry (number q p)) callee (own_fits q) (free_fits flat q) (call_fits flat q entry) (λ a. back_of q places f.nodes a) question in (
       λ a fit on.
           let x = read_at a fit in
           let m = both.0 a fit on in

@@ -1,5 +1,5 @@
 -- Values of the variables of a question: which have their sorts, and that then all that the formulas read has its sort.
-use Rattle.std.specs.Prelude.{◌≡◌, ◌<◌, ℕ, suc, Bool, true, false, ◌&&◌, List, [], ◌∷◌, map, length, slice_get, slice_index, Option, None, Some, IsSome, IsTrue, if◌then◌else◌}
+use Rattle.std.specs.Prelude.{◌≡◌, ◌<◌, ℕ, suc, nat_eq, Bool, true, false, ◌&&◌, List, [], ◌∷◌, map, length, slice_get, slice_index, Option, None, Some, IsSome, IsTrue, if◌then◌else◌}
 use Rattle.hy_val.specs.declared.sort.Sort.{Sort}
 use Rattle.hy_val.specs.declared.sort.ScalarKind.TheVariants.{Bool as BoolSort}
 use Rattle.hy_val.specs.declared.sort.SortKind.TheVariants.{Scalar as ScalarSort}
@@ -64,8 +64,12 @@ abbrev pub free_fits : FlatProgram → Linked → List ℕ → ℕ → Returned 
 free_fits flat q p i ret = if is_node_of q p then comes_back flat (slice_get (sites_by (template_of q (number q p))) i) ret else true
 
 -- a call's globals and args have the sorts of the globals and of the callee's ins
-abbrev pub call_fits : FlatProgram → List ℕ → Request → Bool
-call_fits flat p call = have_sorts call.globals flat.globals && args_fit flat call.proc call.args
+abbrev pub request_fits : FlatProgram → Request → Bool
+request_fits flat call = have_sorts call.globals flat.globals && args_fit flat call.proc call.args
+
+-- a call of the node at a path is one of its procedure, and its globals and args have their sorts
+abbrev pub call_fits : FlatProgram → Linked → (entry : ℕ) → List ℕ → Request → Bool
+call_fits flat q entry p call = nat_eq call.proc (proc_of q entry (number q p)) && request_fits flat call
 
 -- what the variables of a site say, read back
 abbrev pub back_by : List Value → Option SiteTerms → Returned
@@ -111,4 +115,4 @@ CopiesHoldSorts =
     (flat : FlatProgram) (entry : ℕ) (q : Linked) (track : Option Formula → List Value → Track) (base into : List TermNode) (places : List (List ℕ)) (f : Terms) (a : ℕ → Value)
     → IsFilled q track → IsSigned flat entry q base → IsLinked q base → AreCopied q base into places → Grows into f.nodes → IsSome (sorts f.nodes) → IsTrue (fits a f.nodes)
     → SortsHold flat (is_node_of q) f (template_at q track) (put_at q places) q.consts (λ p. globals_of q places (number q p)) (λ p. args_of q places (number q p)) (λ p. proc_of q entry (number q p))
-    (own_fits q) (free_fits flat q) (call_fits flat) (back_of q places f.nodes a) a
+    (own_fits q) (free_fits flat q) (call_fits flat q entry) (back_of q places f.nodes a) a

@@ -64,7 +64,7 @@ NodesAreMembers =
     → IsMade flat entry is_open blocked piece q track_by base f places path reach may
     → IsTree (is_node_of q) is_open height → named (is_node_of q) piece ≡ true
     → ((vs : List Value) → have_sorts vs flat.consts ≡ true
-    → SoundParts flat (MayBe flat) (is_node_of q) is_open (free_by changes) vs (λ p. viewer_of vs (template_at q track_by p)) (own_fits q) (free_fits flat q) (call_fits flat))
+    → SoundParts flat (MayBe flat) (is_node_of q) is_open (free_by changes) vs (λ p. viewer_of vs (template_at q track_by p)) (own_fits q) (free_fits flat q) (call_fits flat q entry))
     → ((vs : List Value) → have_sorts vs flat.consts ≡ true
     → Parts flat (MayBe flat) (is_node_of q) is_open (free_by changes) vs (λ p. viewer_of vs (template_at q track_by p)) (λ p own. own_fits q p own ≡ true) (λ p i ret. free_fits flat q p i ret ≡ true) callee
     (λ p. proc_of q entry (number q p)) entry)

@@ -51,9 +51,9 @@ MadeAreQuestions =
     → IsMade flat entry is_open blocked piece q track base f places path reach may
     → IsTree (is_node_of q) is_open height → named (is_node_of q) piece ≡ true
     → ((vs : List Value) → have_sorts vs flat.consts ≡ true
-    → SoundParts flat (MayBe flat) (is_node_of q) is_open free_values vs (λ p. viewer_of vs (template_at q track p)) (own_fits q) (free_fits flat q) (call_fits flat))
+    → SoundParts flat (MayBe flat) (is_node_of q) is_open free_values vs (λ p. viewer_of vs (template_at q track p)) (own_fits q) (free_fits flat q) (call_fits flat q entry))
     → ((vs : List Value) → have_sorts vs flat.consts ≡ true
     → Parts flat (MayBe flat) (is_node_of q) is_open free_values vs (λ p. viewer_of vs (template_at q track p)) (λ p own. own_fits q p own ≡ true) (λ p i ret. free_fits flat q p i ret ≡ true) callee
     (λ p. proc_of q entry (number q p)) entry)
     → IsQuestion flat entry (is_node_of q) is_open blocked free_values height piece f (template_at q track) (put_at q places) (place_at q places) q.consts (λ p. globals_of q places (number q p))
-    (λ p. args_of q places (number q p)) (λ p. proc_of q entry (number q p)) callee (own_fits q) (free_fits flat q) (call_fits flat) (λ a. back_of q places f.nodes a)
+    (λ p. args_of q places (number q p)) (λ p. proc_of q entry (number q p)) callee (own_fits q) (free_fits flat q) (call_fits flat q entry) (λ a. back_of q places f.nodes a)
