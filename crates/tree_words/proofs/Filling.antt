@@ -21,7 +21,7 @@ use Rattle.hy_term.proofs.Numbering.{same_number}
 use Rattle.flat_prog.specs.Program.{FlatProgram, outs_at}
 use Rattle.flat_prog.specs.Local.{Track, Request, have_sorts, can_come_back}
 use Rattle.tree_terms.specs.Copies.{IsPart}
-use Rattle.tree_terms.proofs.Growth.{sort_within, sort_stays, grows_on}
+use Rattle.tree_terms.proofs.Growth.{are_later, sort_within, sort_stays, grows_on}
 use Rattle.tree_terms.proofs.Parts.{place_low, variable_sort}
 use Rattle.tree_terms.specs.declared.linked.Linked.{Linked}
 use Rattle.tree_terms.specs.declared.linked.Role.{Role}
@@ -89,17 +89,11 @@ make_own role c (node ∷ nodes) h = and_from (own_node role c node) (own_nodes 
     here (Store m i v) k = refl
 
 -- values of nodes of these sorts
-pub have_of : (keep : EachValueHasItsSort) (c : ℕ → Value) (nodes : List TermNode) (ts : List ℕ) (ss : List Sort) → IsTrue (fits c nodes) → AreOf nodes ts ss → have_sorts (map (value c nodes) ts) ss ≡ true
+have_of : (keep : EachValueHasItsSort) (c : ℕ → Value) (nodes : List TermNode) (ts : List ℕ) (ss : List Sort) → IsTrue (fits c nodes) → AreOf nodes ts ss → have_sorts (map (value c nodes) ts) ss ≡ true
 have_of keep c nodes [] [] fit h = refl
 have_of keep c nodes [] (s ∷ ss) fit h = absurd h
 have_of keep c nodes (t ∷ ts) [] fit h = absurd h
 have_of keep c nodes (t ∷ ts) (s ∷ ss) fit h = and_from (has_sort (value c nodes t) s) (have_sorts (map (value c nodes) ts) ss) (keep c nodes t s fit h.0) (have_of keep c nodes ts ss fit h.1)
-
-pub of_later : (old new : List TermNode) (ts : List ℕ) (ss : List Sort) → IsSome (sorts old) → IsSome (sorts new) → Grows old new → AreOf old ts ss → AreOf new ts ss
-of_later old new [] [] ok new_ok g h = tt
-of_later old new [] (s ∷ ss) ok new_ok g h = absurd h
-of_later old new (t ∷ ts) [] ok new_ok g h = absurd h
-of_later old new (t ∷ ts) (s ∷ ss) ok new_ok g h = (sort_stays old new t ok new_ok g (sort_within old t s h.0) ∙ h.0, of_later old new ts ss ok new_ok g h.1)
 
 of_copies : (nodes into : List TermNode) (places : List ℕ) (ts : List ℕ) (ss : List Sort) → IsSome (sorts nodes) → IsPart nodes into places → length places ≡ length nodes → AreOf nodes ts ss
     → AreOf into (map (slice_index places) ts) ss
@@ -135,12 +129,12 @@ module _ (keep : EachValueHasItsSort) (flat : FlatProgram) (entry : ℕ) (q : Li
   base_to = grows_on base into f.nodes done.copying.grows grows
 
   base_have : (ts : List ℕ) (ss : List Sort) → AreOf base ts ss → have_sorts (all_at a f.nodes ts) ss ≡ true
-  base_have ts ss h = have_of keep a f.nodes ts ss fit (of_later base f.nodes ts ss done.copying.base_sorted ok base_to h)
+  base_have ts ss h = have_of keep a f.nodes ts ss fit (are_later base f.nodes ts ss (record { nodes = base_to; sound = ok }) h)
 
   copies_have : (m : ℕ) → m < length q.tree → (ts : List ℕ) (ss : List Sort) → AreOf (nodes_of q m) ts ss → have_sorts (all_at a f.nodes (map (slice_index (row places m)) ts)) ss ≡ true
   copies_have m l ts ss h =
       have_of keep a f.nodes (map (slice_index (row places m)) ts) ss fit
-      (of_later into f.nodes (map (slice_index (row places m)) ts) ss done.copying.sorted ok grows
+      (are_later into f.nodes (map (slice_index (row places m)) ts) ss (record { nodes = grows; sound = ok })
       (of_copies (nodes_of q m) into (row places m) ts ss (linked.sorted m l) (done.copying.parts m l) (done.whole m l) h))
 
   nodes_have : (p : List ℕ) → is_node_of q p ≡ true → (ts : List ℕ) (ss : List Sort) → AreOf (nodes_of q (number q p)) ts ss

@@ -27,7 +27,7 @@ row_none [] m h = refl
 row_none (x ∷ t) zero h = cc
 row_none (x ∷ t) (suc m) h = row_none t m h
 
-pub calls_behind : (xs ys : List FlatCmd) → calls_of (xs ++ ys) ≡ calls_of xs ++ calls_of ys
+calls_behind : (xs ys : List FlatCmd) → calls_of (xs ++ ys) ≡ calls_of xs ++ calls_of ys
 calls_behind [] ys = refl
 calls_behind (Assign pairs ∷ xs) ys = calls_behind xs ys
 calls_behind (Havoc vs ∷ xs) ys = calls_behind xs ys
@@ -35,18 +35,18 @@ calls_behind (Assume e ∷ xs) ys = calls_behind xs ys
 calls_behind (Assert p n e ∷ xs) ys = calls_behind xs ys
 calls_behind (Call p args outs ∷ xs) ys = ap (λ (cs : List ℕ). p ∷ cs) (calls_behind xs ys)
 
-pub sites_behind : (xs ys : List FlatBlock) → sites_of (xs ++ ys) ≡ sites_of xs ++ sites_of ys
+sites_behind : (xs ys : List FlatBlock) → sites_of (xs ++ ys) ≡ sites_of xs ++ sites_of ys
 sites_behind [] ys = refl
 sites_behind (b ∷ xs) ys = ap (λ (cs : List ℕ). calls_of b.cmds ++ cs) (sites_behind xs ys) ∙ sym (append_assoc (calls_of b.cmds) (sites_of xs) (sites_of ys))
 
-pub numbers_more : (first k : ℕ) → numbers_from first (k + 1) ≡ numbers_from first k ++ (first + k) ∷ []
+numbers_more : (first k : ℕ) → numbers_from first (k + 1) ≡ numbers_from first k ++ (first + k) ∷ []
 numbers_more first zero = ap (λ (n : ℕ). n ∷ []) (let e : first ≡ first + 0 = omega arith in e)
 numbers_more first (suc k) =
     let e : (first + 1) + k ≡ first + suc k = omega arith in
     ap (λ (n : ℕ). numbers_from first n) (let m : suc k + 1 ≡ suc (k + 1) = omega arith in m)
     ∙ ap (λ (ns : List ℕ). first ∷ ns) (numbers_more (first + 1) k ∙ ap (λ (n : ℕ). numbers_from (first + 1) k ++ n ∷ []) e)
 
-pub passed_behind : (blocks : List FlatBlock) (xs : List ℕ) (b : ℕ)
+passed_behind : (blocks : List FlatBlock) (xs : List ℕ) (b : ℕ)
     → sites_passed blocks (xs ++ b ∷ []) ≡ sites_passed blocks xs ++ numbers_from (length (sites_of (take b blocks))) (length (calls_at (slice_get blocks b)))
 passed_behind blocks [] b = append-nil (numbers_from (length (sites_of (take b blocks))) (length (calls_at (slice_get blocks b))))
 passed_behind blocks (x ∷ xs) b =
@@ -54,7 +54,7 @@ passed_behind blocks (x ∷ xs) b =
     ap (λ (ns : List ℕ). front ++ ns) (passed_behind blocks xs b)
     ∙ sym (append_assoc front (sites_passed blocks xs) (numbers_from (length (sites_of (take b blocks))) (length (calls_at (slice_get blocks b)))))
 
-pub taken : {X : Type 0} (xs : List X) (i : ℕ) (x : X) → i < length xs → x ≡ slice_index_or xs i x → take (i + 1) xs ≡ take i xs ++ x ∷ []
+taken : {X : Type 0} (xs : List X) (i : ℕ) (x : X) → i < length xs → x ≡ slice_index_or xs i x → take (i + 1) xs ≡ take i xs ++ x ∷ []
 taken xs i x l is = take_more xs i x l ∙ ap (λ z. take i xs ++ z ∷ []) (sym is)
 
 -- a block more

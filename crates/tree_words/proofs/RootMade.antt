@@ -38,7 +38,7 @@ pub ready_fit : (q : Linked) (into : List TermNode) (places : List (List ℕ)) (
 ready_fit q into places reach may always never piece h a n = rules_are_fit q h.base into places reach may always never piece h.there h.bools h.done h.reaches a.bool n.bool h.piece_low
 
 -- the bit that the entry's run fails
-pub fails_bool : (q : Linked) (into : List TermNode) (places : List (List ℕ)) (reach : List ℕ) (piece : List (ℕ × Decision2)) → AreReady q into places reach piece → IsBool into (term places 0 (fails_by (template_of q 0)))
+fails_bool : (q : Linked) (into : List TermNode) (places : List (List ℕ)) (reach : List ℕ) (piece : List (ℕ × Decision2)) → AreReady q into places reach piece → IsBool into (term places 0 (fails_by (template_of q 0)))
 fails_bool q into places reach piece h = copy_bool q h.base into places reach (λ m i. true) h.there h.bools h.done h.reaches 0 (fails_by (template_of q 0)) h.root (h.there.fails 0 h.root) (h.bools.fails 0 h.root)
 
 pub all_later : (old new : List TermNode) (rs : List Rule) → IsSome (sorts old) → IsSome (sorts new) → Grows old new → RulesFit old rs → RulesFit new rs

@@ -104,9 +104,6 @@ module _ (law : NodesAreRuns) (flat : FlatProgram) (changes : List (List ℕ)) (
       by_on true on ih = and_from (p (child_by changes slots (kid q m i) (v.site i))) (list_all p (children_by changes slots q m v sites)) (h i on) ih
       by_on false off ih = ih
 
-  some_is : (m c d : ℕ) (i : ℕ) → kid q m i ≡ Some c → kid q m i ≡ Some d → c ≡ d
-  some_is m c d i e g = let h : Some c ≡ Some d = sym e ∙ g in cc
-
   fit_one : (m : ℕ) → m < length q.tree → r m ≡ true → list_all (is_child (slot r m) (slot r (length q.tree))) (one m).children ≡ true
   fit_one m l go =
       let v = view_at q places vs m in

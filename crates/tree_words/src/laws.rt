@@ -158,7 +158,7 @@ pub fn tracks_are_views()
     ensures { TracksAreViews }
 {}
 
-/// A node that is over passes the first sites of its path.
+/// A node that is over, of which its view says so soundly, passes the first sites of its path and no others.
 pub fn runs_are_in_order()
     ensures { RunsAreInOrder }
 {}

@@ -243,9 +243,10 @@ fn slots(
 /// the values are those under an assignment that makes the root of a question true, the nodes are those of a member
 /// (`nodes_are_members`).
 ///
-/// `procs` are the procedures of the flat program, `changes` has for each of them the numbers of the globals that it may change, `places` for each node of the tree where the copies
-/// of its formula's nodes are among the terms, `reach` for each node the bool that says that it is reached, and `values` the values of
-/// all terms. `AllocError` comes where memory runs out.
+/// `procs` are the procedures of the flat program, and `changes` has for each of them the numbers of the globals that it may change.
+/// `places` has for each node of the tree where the copies of its formula's nodes are among the terms, `reach` the bool that says that
+/// it is reached, and `values` the values of all terms. `AllocError` comes where memory runs out, or the number of a call site does
+/// not fit.
 pub fn read_nodes(
     alloc: Global,
     procs: &[FlatProc],

@@ -6,7 +6,7 @@ use flat_prog::{FlatBlock, FlatCmd};
 use sqlite_items::Items;
 use std::alloc::{AllocError, Global};
 
-// The sum, where it fits.
+// The sum; want of memory where it does not fit.
 fn sum(one: usize, other: usize) -> Result<usize, AllocError>
     ensures { IfOk result (λ n. n ≡ one + other) }
 {
@@ -72,7 +72,7 @@ fn push_numbers(sites: &mut Items<usize>, first: usize, count: usize) -> Result<
 }
 
 /// The numbers of the call sites in the blocks of a path, in order. The sites of a procedure are its calls, numbered from 0 by block
-/// and by position in it. `AllocError` comes where memory runs out.
+/// and by position in it. `AllocError` comes where memory runs out, or a number does not fit.
 pub fn sites_passed(
     alloc: Global,
     blocks: &[FlatBlock],
