@@ -5,7 +5,11 @@
 #[cfg(test)]
 mod extracting;
 #[cfg(test)]
+mod frames;
+#[cfg(test)]
 mod listing;
+#[cfg(test)]
+mod outcomes;
 #[cfg(test)]
 mod programs;
 #[cfg(test)]

@@ -1,5 +1,5 @@
 //! Run trees from tables, and the facts that make lists of nodes trees.
-ghost use Rattle.std.specs.Prelude.{◌≡◌, ◌&&◌, ◌→◌, IsTrue, IfOk};
+ghost use Rattle.std.specs.Prelude.{◌≡◌};
 ghost use Rattle.std.specs.List.{list_all};
 ghost use Rattle.flat_prog.specs.Nodes as spec;
 
@@ -92,20 +92,19 @@ fn node_of(alloc: Global, row: Row) -> Result<RunNode, AllocError> {
     })
 }
 
-// Whether it is a node behind this one, below a bound.
+// Whether it is a node behind this one, below a bound, or free.
 fn is_child(number: usize, high: usize, child: &Child) -> bool
-    ensures { result ≡ (spec.is_child number high child.now && spec.is_node_child child.now) }
+    ensures { result ≡ spec.is_child number high child.now }
 {
     match child {
         Child::Node(i) => number < *i && *i < high,
-        Child::Free { .. } => false,
+        Child::Free { .. } => true,
     }
 }
 
-// Whether all children of a node are nodes behind it, below a bound.
+// Whether the children of a node that are nodes stand behind it, below a bound.
 fn are_children(number: usize, high: usize, children: &[Child]) -> bool
-    ensures fit { IsTrue result → IsTrue (list_all (spec.is_child number high) children.now) }
-    ensures whole { IsTrue result → IsTrue (list_all spec.is_node_child children.now) }
+    ensures { result ≡ list_all (spec.is_child number high) children.now }
 {
     for child in children {
         if !is_child(number, high, child) {
@@ -115,21 +114,47 @@ fn are_children(number: usize, high: usize, children: &[Child]) -> bool
     true
 }
 
-// Whether the nodes are a run tree.
-fn is_tree(nodes: &[RunNode]) -> bool
-    ensures { IsTrue result → IsTrue (spec.are_nodes nodes.now && spec.are_whole_nodes nodes.now) }
+// Whether the same holds of each node.
+fn nodes_fit(nodes: &[RunNode], high: usize) -> bool
+    ensures { result ≡ spec.nodes_fit 0 high nodes.now }
 {
     for (number, node) in nodes.iter().enumerate() {
-        if !are_children(number, nodes.len(), node.children.as_slice()) {
+        if !are_children(number, high, node.children.as_slice()) {
             return false;
         }
     }
-    !nodes.is_empty()
+    true
+}
+
+// Whether no child is free.
+fn is_whole(children: &[Child]) -> bool
+    ensures { result ≡ list_all spec.is_node_child children.now }
+{
+    for child in children {
+        match child {
+            Child::Node(_) => {}
+            Child::Free { .. } => return false,
+        }
+    }
+    true
+}
+
+// Whether no child of any node is free.
+fn are_whole(nodes: &[RunNode]) -> bool
+    ensures { result ≡ spec.are_whole_nodes nodes.now }
+{
+    for node in nodes {
+        if !is_whole(node.children.as_slice()) {
+            return false;
+        }
+    }
+    true
 }
 
 /// The run tree of these nodes. An error comes where they are none.
 pub fn tree_of(nodes: Items<RunNode>) -> Result<RunTree, AllocError> {
-    if is_tree(nodes.as_slice()) {
+    let high = nodes.len();
+    if !nodes.is_empty() && nodes_fit(nodes.as_slice(), high) && are_whole(nodes.as_slice()) {
         Ok(RunTree::new(nodes))
     } else {
         Err(AllocError)
