@@ -1,5 +1,5 @@
-//! What a run of a flat procedure does in a node of a run tree: its begin, its commands and its calls. An error comes where the node
-//! is no such run.
+//! What a run of a flat procedure does in a node of a run tree: its begin, its commands and its calls. An error
+//! comes where the node is no such run.
 
 use flat_prog::{Child, Flat, FlatKind, FlatProc, RunNode};
 use hy_val::{Atom, AtomKind, BitVec, Env, Expr, Sort, Value, Var, Width, eval};
@@ -110,11 +110,7 @@ fn fill(
 }
 
 // A node of a loop takes no value here: its outs start as its ins, and the exit number as 0.
-fn start_loop(
-    alloc: Global,
-    proc: &FlatProc,
-    locals: &mut Items<Value>,
-) -> Result<(), AllocError> {
+fn start_loop(alloc: Global, proc: &FlatProc, locals: &mut Items<Value>) -> Result<(), AllocError> {
     let outs = copies(alloc, locals.as_slice())?;
     locals.append(outs)?;
     locals.push(Value::Atom(Atom::bits(BitVec::new(Width::new(32), 0))))?;

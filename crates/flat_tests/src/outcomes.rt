@@ -1,5 +1,5 @@
-//! How a run tree is over, by the meaning of flat programs alone: each node passes its path on the values and the runs below it.
-//! An error comes where the nodes are no run.
+//! How a run tree is over, by the meaning of flat programs alone: each node passes its path on the values and the
+//! runs below it. An error comes where the nodes are no run.
 
 use crate::frames::{Frame, assign, called, first, havoc, holds, write};
 use crate::programs::program;
@@ -43,11 +43,7 @@ fn failed(
 }
 
 // The targets of the call that a run stands behind.
-fn targets<'a>(
-    flat: &'a Flat,
-    nodes: &[RunNode],
-    frame: &Frame,
-) -> Result<&'a [Var], AllocError> {
+fn targets<'a>(flat: &'a Flat, nodes: &[RunNode], frame: &Frame) -> Result<&'a [Var], AllocError> {
     let Some(node) = nodes.get(frame.node) else {
         return Err(AllocError);
     };
@@ -149,8 +145,7 @@ fn pass_end(
             };
             frame.step = frame.step.saturating_add(1);
             frame.cmd = 0;
-            let (Some(to), Some(block)) =
-                (targets.get(*place as usize), node.path.get(frame.step))
+            let (Some(to), Some(block)) = (targets.get(*place as usize), node.path.get(frame.step))
             else {
                 return Err(AllocError);
             };

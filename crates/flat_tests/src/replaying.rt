@@ -36,7 +36,10 @@ fn replayed(alloc: Global, case: Case, given: &[Choice]) -> Result<Status, Alloc
 fn trees_stand_for_choices(rt: HostRuntime) -> Result<(), Fail> {
     for (number, case) in CASES.iter().enumerate() {
         let found = listed(rt.alloc(), *case)?;
-        assert!(rt; are_choices(found.as_slice(), case.choices)?, "case {number}");
+        assert!(rt;
+            are_choices(found.as_slice(), case.choices)?,
+            "case {number}"
+        );
     }
     Ok(())
 }

@@ -40,10 +40,15 @@ fn nest_of_loops(alloc: Global, depth: u32) -> Result<Vec<u8>, AllocError> {
 fn chain_of_procs(alloc: Global, count: u32) -> Result<Vec<u8>, AllocError> {
     let mut text = Vec::new(alloc);
     for number in 1..count {
-        let unit = format!(in alloc; "procedure p{number}() {{ var x: bv8; goto A, A; A: call p{}(); }}\n", number.wrapping_add(1))?;
+        let unit = format!(in alloc;
+            "procedure p{number}() {{ var x: bv8; goto A, A; A: call p{}(); }}\n",
+            number.wrapping_add(1)
+        )?;
         text.extend_from_slice(unit.as_bytes())?;
     }
-    let last = format!(in alloc; "procedure p{count}() {{ var x: bv8; goto A, A; A: assert false; }}\n")?;
+    let last = format!(in alloc;
+        "procedure p{count}() {{ var x: bv8; goto A, A; A: assert false; }}\n"
+    )?;
     text.extend_from_slice(last.as_bytes())?;
     Ok(text)
 }
@@ -60,8 +65,8 @@ fn counts(alloc: Global, text: &[u8]) -> Result<(usize, usize), AllocError> {
     Ok((procs.len(), blocks))
 }
 
-// In the procedure itself stand its first block, a head, an exit and one block behind that exit for each loop; a loop has a head, a body, an exit and
-// a further turn.
+// In the procedure stand its first block, and for each loop a head, the block that it is left to and the one between;
+// a loop has a head, a body, an exit and a further turn.
 #[test]
 fn loops_in_a_row_are_extracted(rt: HostRuntime) -> Result<(), Fail> {
     let alloc = rt.alloc();

@@ -1,8 +1,6 @@
 //! The text of sorts, variables, values and expressions.
 
-use hy_val::{
-    Atom, AtomKind, Expr, ExprNode, Scalar, ScalarKind, Sort, SortKind, Var,
-};
+use hy_val::{Atom, AtomKind, Expr, ExprNode, Scalar, ScalarKind, Sort, SortKind, Var};
 use std::alloc::{AllocError, Global};
 
 fn scalar_text(alloc: Global, scalar: Scalar) -> Result<String, AllocError> {
@@ -58,16 +56,34 @@ fn node_text(alloc: Global, node: &ExprNode, before: &[String]) -> Result<String
             format!(in alloc; "{op:?}({})", text_at(before, *child))
         }
         ExprNode::Binary { op, left, right } => {
-            format!(in alloc; "{op:?}({}, {})", text_at(before, *left), text_at(before, *right))
+            format!(in alloc;
+                "{op:?}({}, {})",
+                text_at(before, *left),
+                text_at(before, *right)
+            )
         }
         ExprNode::If { cond, yes, no } => {
-            format!(in alloc; "If({}, {}, {})", text_at(before, *cond), text_at(before, *yes), text_at(before, *no))
+            format!(in alloc;
+                "If({}, {}, {})",
+                text_at(before, *cond),
+                text_at(before, *yes),
+                text_at(before, *no)
+            )
         }
         ExprNode::Select { map, index } => {
-            format!(in alloc; "Select({}, {})", text_at(before, *map), text_at(before, *index))
+            format!(in alloc;
+                "Select({}, {})",
+                text_at(before, *map),
+                text_at(before, *index)
+            )
         }
         ExprNode::Store { map, index, value } => {
-            format!(in alloc; "Store({}, {}, {})", text_at(before, *map), text_at(before, *index), text_at(before, *value))
+            format!(in alloc;
+                "Store({}, {}, {})",
+                text_at(before, *map),
+                text_at(before, *index),
+                text_at(before, *value)
+            )
         }
     }
 }

@@ -24,7 +24,13 @@ pub struct Case {
 
 // `i` is 0, 1 and 2 in three turns, and then the loop is left.
 const COUNTED_ROWS: &[Row] = &[
-    Row(0, &[0, 1, 3, 2], &[0, 0, 0], &[Bits(8, 9), Bits(32, 5)], &[1]),
+    Row(
+        0,
+        &[0, 1, 3, 2],
+        &[0, 0, 0],
+        &[Bits(8, 9), Bits(32, 5)],
+        &[1],
+    ),
     Row(1, &[0, 1, 3], &[0, 0], &[], &[2]),
     Row(1, &[0, 1, 3], &[0, 0], &[], &[3]),
     Row(1, &[0, 1, 3], &[0, 0], &[], &[4]),
@@ -59,7 +65,13 @@ const RECURSIVE_CHOICES: &[Short] = &[
 
 // Two turns of the outer loop, each with two turns of the inner one, after which `n` is 4.
 const NESTED_ROWS: &[Row] = &[
-    Row(0, &[0, 1, 3, 2], &[0, 0, 0], &[Bits(8, 6), Bits(8, 7), Bits(8, 8), Bits(32, 9)], &[1]),
+    Row(
+        0,
+        &[0, 1, 3, 2],
+        &[0, 0, 0],
+        &[Bits(8, 6), Bits(8, 7), Bits(8, 8), Bits(32, 9)],
+        &[1],
+    ),
     Row(1, &[0, 1, 2, 4, 3, 6], &[0, 0, 0, 0, 0], &[], &[2, 5]),
     Row(2, &[0, 1, 3], &[0, 0], &[], &[3]),
     Row(2, &[0, 1, 3], &[0, 0], &[], &[4]),
@@ -101,13 +113,25 @@ const TWICE_SECOND: &[Row] = &[Row(0, &[0, 1], &[1], &[], &[])];
 
 // The loop is left at its head at once.
 const LEFT_AT_HEAD: &[Row] = &[
-    Row(0, &[0, 1, 3, 2], &[0, 0, 0], &[Bool(false), Bits(32, 0)], &[1]),
+    Row(
+        0,
+        &[0, 1, 3, 2],
+        &[0, 0, 0],
+        &[Bool(false), Bits(32, 0)],
+        &[1],
+    ),
     Row(1, &[0, 5], &[1], &[], &[]),
 ];
 
 // The loop is left by its break, in the second turn.
 const LEFT_BY_BREAK: &[Row] = &[
-    Row(0, &[0, 1, 4, 2], &[0, 1, 0], &[Bool(false), Bits(32, 0)], &[1]),
+    Row(
+        0,
+        &[0, 1, 4, 2],
+        &[0, 1, 0],
+        &[Bool(false), Bits(32, 0)],
+        &[1],
+    ),
     Row(1, &[0, 1, 3, 4, 7], &[0, 1, 0, 0], &[Bool(true)], &[2]),
     Row(1, &[0, 1, 2, 6], &[0, 0, 0], &[], &[]),
 ];

@@ -1,8 +1,6 @@
 //! Equal flat programs, the order of blocks, and what procedures may change.
 
-use crate::programs::{
-    BROKEN, CHANGED, COUNTED, DEEP, NESTED, RECURSIVE, RETURNED, program,
-};
+use crate::programs::{BROKEN, CHANGED, COUNTED, DEEP, NESTED, RECURSIVE, RETURNED, program};
 use flat_prog::{Flat, limits, order};
 use loop_extract::extract;
 use sqlite_items::Items;
