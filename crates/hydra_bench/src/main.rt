@@ -3,13 +3,17 @@
 #![tactic(auto)]
 
 mod circuits;
+mod extracting;
 mod reading;
+mod runs;
+mod shapes;
 mod solving;
 mod stores;
 mod values;
 
 use circuits::Circuit;
 use hy_text::read_u64;
+use shapes::Shape;
 use std::alloc::Global;
 use std::{env, io};
 use stores::Outcome;
@@ -35,6 +39,12 @@ enum Work {
     Blast(u64),
     /// Decides such a question.
     Decide(u64),
+    /// Makes a program of a shape and a size.
+    Lower(Shape, u64),
+    /// Makes a program of a shape and a size, and takes its loops out.
+    Extract(Shape, u64),
+    /// Makes a program of so many loops, a failing run tree of its flat program, and the tree's choices.
+    Back(u64),
 }
 
 /// The work that the words name; None where they name none.
@@ -50,6 +60,23 @@ fn chosen(kind: &str, size: &str) -> Option<Work> {
         "reduce" => Some(Work::Reduce(size)),
         "blast" => Some(Work::Blast(size)),
         "decide" => Some(Work::Decide(size)),
+        "back" => Some(Work::Back(size)),
+        _ => None,
+    }
+}
+
+/// The same where they name a shape too.
+fn shaped(kind: &str, shape: &str, size: &str) -> Option<Work> {
+    let size = read_u64(size.as_bytes()).ok()?;
+    let shape = match shape {
+        "procedures" => Shape::Procedures,
+        "nests" => Shape::Nests,
+        "rows" => Shape::Rows,
+        _ => return None,
+    };
+    match kind {
+        "lower" => Some(Work::Lower(shape, size)),
+        "extract" => Some(Work::Extract(shape, size)),
         _ => None,
     }
 }
@@ -85,6 +112,21 @@ fn tell_decided(rt: &HostRuntime, alloc: Global, count: u64) -> io::Result<()> {
         Outcome::Model(values) => println!(rt; "decide: {count} stores, model of {values} values"),
         Outcome::Refuted(lines) => println!(rt; "decide: {count} stores, refuted by {lines} lines"),
     }
+}
+
+/// Prints the sizes of a program.
+fn tell_program(rt: &HostRuntime, work: &str, counts: extracting::Counts) -> io::Result<()> {
+    println!(rt;
+        "{work}: {} procedures, {} blocks, {} commands",
+        counts.procs, counts.blocks, counts.commands
+    )
+}
+
+/// Prints the sizes of a failing run tree of so many loops, and of its choices.
+fn tell_back(rt: &HostRuntime, alloc: Global, loops: u64) -> io::Result<()> {
+    let loops = loops.min(1_000_000) as u32;
+    let counts = extracting::back(alloc, loops)?;
+    println!(rt; "back: {} nodes, {} choices", counts.nodes, counts.choices)
 }
 
 /// Does the work and prints its counts.
@@ -126,6 +168,13 @@ fn run(rt: &HostRuntime, alloc: Global, work: Work) -> io::Result<()> {
             )
         }
         Work::Decide(size) => tell_decided(rt, alloc, size),
+        Work::Lower(shape, size) => {
+            tell_program(rt, "lower", extracting::lowered(alloc, shape, size)?)
+        }
+        Work::Extract(shape, size) => {
+            tell_program(rt, "extract", extracting::extracted(alloc, shape, size)?)
+        }
+        Work::Back(size) => tell_back(rt, alloc, size),
     }
 }
 
@@ -138,12 +187,13 @@ fn main(rt: HostRuntime) -> io::Result<()> {
     }
     let work = match words.as_slice() {
         [kind, size] => chosen(kind.as_str(), size.as_str()),
+        [kind, shape, size] => shaped(kind.as_str(), shape.as_str(), size.as_str()),
         _ => None,
     };
     match work {
         Some(work) => run(&rt, alloc, work),
         None => println!(rt;
-            "usage: hydra_bench tokens MIB | parse MIB | show MIB | values THOUSANDS | solve VARIABLES | gates WIDTH | reduce STORES | blast STORES | decide STORES"
+            "usage: hydra_bench tokens MIB | parse MIB | show MIB | values THOUSANDS | solve VARIABLES | gates WIDTH | reduce STORES | blast STORES | decide STORES | back LOOPS | lower SHAPE SIZE | extract SHAPE SIZE, where SHAPE is procedures, nests or rows"
         ),
     }
 }

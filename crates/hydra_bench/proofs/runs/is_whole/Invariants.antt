@@ -1,0 +1,8 @@
+-- What is left to look at says whether all is so.
+use Rattle.std.proofs.Common.{◌≡◌, drop}
+use Rattle.std.specs.List.{list_all}
+use Rattle.flat_prog.specs.Nodes as spec
+use Rattle.hydra_bench.proofs.runs.is_whole.Given as goal
+
+abbrev pub invariant-loop-child : goal.invariant-loop-child
+invariant-loop-child l = list_all spec.is_node_child l.children ≡ list_all spec.is_node_child (drop l.child-index l.children)
