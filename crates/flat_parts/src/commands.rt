@@ -43,6 +43,7 @@ pub(crate) fn is_condition(alloc: Global, known: &Known, expr: &Expr) -> Result<
     Ok(fits)
 }
 
+#[tactic(auto, using(crate::proofs::Apart::args_apart))]
 // Whether there are as many arguments as sorts, each of its sort.
 fn args_fit(
     alloc: Global,
@@ -63,6 +64,7 @@ fn args_fit(
     Ok(true)
 }
 
+#[tactic(auto, using(crate::proofs::Apart::targets_apart))]
 // Whether there are as many targets as sorts, each of its sort.
 fn targets_fit(known: &Known, sorts: &[Sort], vars: &[Var]) -> bool
     ensures { result ≡ spec.targets_fit known.now sorts.now vars.now }

@@ -43,11 +43,12 @@ fn variables(alloc: Global, proc: &FlatProc) -> Result<Items<Sort>, AllocError>
     Ok(sorts)
 }
 
+#[tactic(auto, using(crate::proofs::Apart::outs_apart))]
 // Whether the outs of a loop procedure are its ins, and then one of 32 bits.
 fn outs_follow(ins: &[Sort], outs: &[Sort]) -> bool
     ensures { result ≡ parts.outs_follow ins.now outs.now }
 {
-    if ins.len() >= outs.len() {
+    if outs.len().saturating_sub(ins.len()) != 1 {
         return false;
     }
     for place in 0..ins.len() {
@@ -56,7 +57,7 @@ fn outs_follow(ins: &[Sort], outs: &[Sort]) -> bool
         }
     }
     let number = Sort::scalar(Scalar::bits(Width::new(32)));
-    outs.len() - ins.len() == 1 && same_sort(outs[ins.len()], number)
+    same_sort(outs[ins.len()], number)
 }
 
 // Whether the outs are as the kind of the procedure wants them.
@@ -103,6 +104,21 @@ fn procs_fit(
     Ok(true)
 }
 
+// Whether the parts are those of a program.
+fn parts_fit(
+    alloc: Global,
+    consts: &[Sort],
+    globals: &[Sort],
+    procs: &[FlatProc],
+) -> Result<bool, AllocError>
+    ensures { IfOk result (λ fit. fit ≡ parts.are_flat consts.now globals.now procs.now) }
+{
+    let few = sorts_fit(consts) && (sorts_fit(globals) && are_numbered(procs.len()));
+    let fit = procs_fit(alloc, consts, globals, procs)?;
+    Ok(few && (fit && all_call_on(procs)))
+}
+
+#[tactic(auto, using(crate::proofs::Flats::flat_is))]
 /// The flat program without axioms of these constants, globals and procedures. It is None where they are none: where a number names
 /// nothing, sorts don't fit or 32 bits number too few; where an edge does not lead to a block with a higher number; or where a
 /// procedure calls a loop procedure with a lower number than its own.
@@ -114,15 +130,13 @@ pub fn flat_of(
 ) -> Result<Option<Flat>, AllocError>
     ensures { IfOk result (λ flat. flat ≡ (if parts.are_flat consts globals procs then Some (parts.program_of consts globals procs) else None)) }
 {
-    let few = sorts_fit(consts.as_slice())
-        && (sorts_fit(globals.as_slice()) && are_numbered(procs.len()));
-    let fit = procs_fit(
+    let fit = parts_fit(
         alloc,
         consts.as_slice(),
         globals.as_slice(),
         procs.as_slice(),
     )?;
-    if few && (fit && all_call_on(procs.as_slice())) {
+    if fit {
         let flat = Flat::new(
             consts,
             Items::new(alloc),

@@ -3,12 +3,14 @@
 #![tactic(auto)]
 
 mod circuits;
+mod formulas;
 mod reading;
 mod solving;
 mod stores;
 mod values;
 
 use circuits::Circuit;
+use formulas::Shape;
 use hy_text::read_u64;
 use std::alloc::Global;
 use std::{env, io};
@@ -35,6 +37,10 @@ enum Work {
     Blast(u64),
     /// Decides such a question.
     Decide(u64),
+    /// Makes the terms of a procedure.
+    Terms(Shape),
+    /// Makes the clauses of a procedure.
+    Net(Shape),
 }
 
 /// The work that the words name; None where they name none.
@@ -50,6 +56,23 @@ fn chosen(kind: &str, size: &str) -> Option<Work> {
         "reduce" => Some(Work::Reduce(size)),
         "blast" => Some(Work::Blast(size)),
         "decide" => Some(Work::Decide(size)),
+        _ => None,
+    }
+}
+
+/// The work on a procedure that the words name; None where they name none.
+fn chosen_formula(kind: &str, blocks: &str, variables: &str) -> Option<Work> {
+    let blocks = read_u64(blocks.as_bytes()).ok()?;
+    let variables = read_u64(variables.as_bytes()).ok()?;
+    let shape = |returns: bool| Shape {
+        blocks,
+        variables,
+        returns,
+    };
+    match kind {
+        "terms" => Some(Work::Terms(shape(false))),
+        "returns" => Some(Work::Terms(shape(true))),
+        "net" => Some(Work::Net(shape(false))),
         _ => None,
     }
 }
@@ -85,6 +108,15 @@ fn tell_decided(rt: &HostRuntime, alloc: Global, count: u64) -> io::Result<()> {
         Outcome::Model(values) => println!(rt; "decide: {count} stores, model of {values} values"),
         Outcome::Refuted(lines) => println!(rt; "decide: {count} stores, refuted by {lines} lines"),
     }
+}
+
+/// Prints how large the formula of a procedure is.
+fn tell_net(rt: &HostRuntime, alloc: Global, shape: Shape) -> io::Result<()> {
+    let sizes = formulas::count_net(alloc, shape)?;
+    println!(rt;
+        "net: {} blocks, {} variables, {} terms, {} gates, {} clauses",
+        shape.blocks, shape.variables, sizes.terms, sizes.gates, sizes.clauses
+    )
 }
 
 /// Does the work and prints its counts.
@@ -126,6 +158,14 @@ fn run(rt: &HostRuntime, alloc: Global, work: Work) -> io::Result<()> {
             )
         }
         Work::Decide(size) => tell_decided(rt, alloc, size),
+        Work::Terms(shape) => {
+            let terms = formulas::count_terms(alloc, shape)?;
+            println!(rt;
+                "terms: {} blocks, {} variables, {terms} terms",
+                shape.blocks, shape.variables
+            )
+        }
+        Work::Net(shape) => tell_net(rt, alloc, shape),
     }
 }
 
@@ -138,12 +178,15 @@ fn main(rt: HostRuntime) -> io::Result<()> {
     }
     let work = match words.as_slice() {
         [kind, size] => chosen(kind.as_str(), size.as_str()),
+        [kind, blocks, variables] => {
+            chosen_formula(kind.as_str(), blocks.as_str(), variables.as_str())
+        }
         _ => None,
     };
     match work {
         Some(work) => run(&rt, alloc, work),
         None => println!(rt;
-            "usage: hydra_bench tokens MIB | parse MIB | show MIB | values THOUSANDS | solve VARIABLES | gates WIDTH | reduce STORES | blast STORES | decide STORES"
+            "usage: hydra_bench tokens MIB | parse MIB | show MIB | values THOUSANDS | solve VARIABLES | gates WIDTH | reduce STORES | blast STORES | decide STORES | terms BLOCKS VARIABLES | returns BLOCKS VARIABLES | net BLOCKS VARIABLES"
         ),
     }
 }
