@@ -45,12 +45,7 @@ pub(crate) fn is_condition(alloc: Global, known: &Known, expr: &Expr) -> Result<
 
 #[tactic(auto, using(crate::proofs::Apart::args_apart))]
 // Whether there are as many arguments as sorts, each of its sort.
-fn args_fit(
-    alloc: Global,
-    known: &Known,
-    sorts: &[Sort],
-    args: &[Expr],
-) -> Result<bool, AllocError>
+fn args_fit(alloc: Global, known: &Known, sorts: &[Sort], args: &[Expr]) -> Result<bool, AllocError>
     ensures { IfOk result (λ fit. fit ≡ spec.args_fit known.now sorts.now args.now) }
 {
     if sorts.len() != args.len() {

@@ -137,13 +137,7 @@ pub fn flat_of(
         procs.as_slice(),
     )?;
     if fit {
-        let flat = Flat::new(
-            consts,
-            Items::new(alloc),
-            Items::new(alloc),
-            globals,
-            procs,
-        );
+        let flat = Flat::new(consts, Items::new(alloc), Items::new(alloc), globals, procs);
         Ok(Some(flat))
     } else {
         Ok(None)

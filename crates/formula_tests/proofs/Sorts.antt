@@ -1,6 +1,6 @@
 -- Nodes have the sorts of a list, one by one; and the passive form of a procedure of a program can become terms.
 use Rattle.std.proofs.Common.{◌≡◌, ℕ, zero, suc, ◌<◌, ◌+◌, List, [], ◌∷◌, length, drop, arith, refl, sym, subst, ap, ◌∙◌, Bool}
-use Rattle.std.specs.Prelude.{Option, None, Some, slice_get, slice_index_or, IsTrue, IsSome, true}
+use Rattle.std.specs.Prelude.{Option, None, Some, slice_get, slice_index, slice_index_or, IsTrue, IsSome, true}
 use Rattle.std.specs.Option.{option_and_then}
 use Rattle.std.proofs.lemmas.Bool.{and_parts}
 use Rattle.hy_val.specs.declared.sort.Sort.{Sort}
@@ -18,14 +18,14 @@ use Rattle.vc_gen.specs.Standing.{AreOf}
 use Rattle.vc_gen.specs.Whole.{PassiveReady}
 
 -- one more node has its sort
-pub are_next : (nodes : List TermNode) (ts : List ℕ) (ss : List Sort) (i : ℕ) (t : ℕ) (s : Sort) → length ss ≡ length ts → i < length ts → t ≡ slice_index_or ts i t → s ≡ slice_index_or ss i s →
-    sort_at nodes t ≡ Some s → AreOf nodes (drop (i + 1) ts) (drop (i + 1) ss) → AreOf nodes (drop i ts) (drop i ss)
-are_next nodes [] ss i t s many l it is h rest = absurd (omega (arith, l))
-are_next nodes (x ∷ ts) [] i t s many l it is h rest = absurd (omega (arith, many))
-are_next nodes (x ∷ ts) (y ∷ ss) zero t s many l it is h rest = (subst (λ z. sort_at nodes z ≡ Some y) it (subst (λ z. sort_at nodes t ≡ Some z) is h), rest)
-are_next nodes (x ∷ ts) (y ∷ ss) (suc i) t s many l it is h rest =
+pub are_next : (nodes : List TermNode) (ts : List ℕ) (ss : List Sort) (i : ℕ) (s : Sort) → length ss ≡ length ts → i < length ts → s ≡ slice_index_or ss i s →
+    sort_at nodes (slice_index ts i) ≡ Some s → AreOf nodes (drop (i + 1) ts) (drop (i + 1) ss) → AreOf nodes (drop i ts) (drop i ss)
+are_next nodes [] ss i s many l is h rest = absurd (omega (arith, l))
+are_next nodes (x ∷ ts) [] i s many l is h rest = absurd (omega (arith, many))
+are_next nodes (x ∷ ts) (y ∷ ss) zero s many l is h rest = (subst (λ z. sort_at nodes x ≡ Some z) is h, rest)
+are_next nodes (x ∷ ts) (y ∷ ss) (suc i) s many l is h rest =
     let e : suc i + 1 ≡ suc (i + 1) = omega arith in
-    are_next nodes ts ss i t s (omega (arith, many)) (omega (arith, l)) it is h (subst (λ k. AreOf nodes (drop k (x ∷ ts)) (drop k (y ∷ ss))) e rest)
+    are_next nodes ts ss i s (omega (arith, many)) (omega (arith, l)) is h (subst (λ k. AreOf nodes (drop k (x ∷ ts)) (drop k (y ∷ ss))) e rest)
 
 pub are_end : (nodes : List TermNode) (ts : List ℕ) (ss : List Sort) (i : ℕ) → length ss ≡ length ts → length ts ≡ i → AreOf nodes (drop i ts) (drop i ss)
 are_end nodes [] [] i many e = rw (nothing i) tt

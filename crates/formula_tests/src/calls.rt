@@ -75,8 +75,20 @@ fn the_site_on_the_path_is_passed(rt: HostRuntime) -> Result<(), Fail> {
         ];
         assert!(rt; makes(alloc, &formula, &inside, &broken)?);
     }
-    assert!(rt; !can_be(alloc, &formula, &[(Part::Comes(1, 0), 1), (Part::Comes(2, 0), 1)])?);
-    assert!(rt; !can_be(alloc, &formula, &[(Part::Comes(1, 0), 0), (Part::Comes(2, 0), 0)])?);
+    assert!(rt;
+        !can_be(
+            alloc,
+            &formula,
+            &[(Part::Comes(1, 0), 1), (Part::Comes(2, 0), 1)]
+        )?
+    );
+    assert!(rt;
+        !can_be(
+            alloc,
+            &formula,
+            &[(Part::Comes(1, 0), 0), (Part::Comes(2, 0), 0)]
+        )?
+    );
     Ok(())
 }
 
@@ -117,7 +129,11 @@ fn globals_change_where_the_callee_changes_them(rt: HostRuntime) -> Result<(), F
     let formula = two_globals(alloc)?;
     assert!(rt; is_over_once(alloc, &formula)?);
     assert!(rt; !can_be(alloc, &formula, &[(Part::Assert(0, 3), 1)])?);
-    let failing = [(Part::Fails, 1), (Part::FailsIn(0, 0), 0), (Part::FailsIn(0, 1), 0)];
+    let failing = [
+        (Part::Fails, 1),
+        (Part::FailsIn(0, 0), 0),
+        (Part::FailsIn(0, 1), 0),
+    ];
     assert!(rt; makes(alloc, &formula, &failing, &[(Part::Assert(0, 4), 1)])?);
     let found = [
         (Part::Before(0, 0, 0), 1),
@@ -133,8 +149,18 @@ fn globals_change_where_the_callee_changes_them(rt: HostRuntime) -> Result<(), F
         let facts = [(Part::Ended, 1), (Part::Global(global), value)];
         assert!(rt; can_be(alloc, &formula, &facts)? == wanted);
     }
-    let left = [(Part::Fails, 1), (Part::Before(0, 1, 1), 3), (Part::Broken(0, 0), 0)];
-    let broken = [(Part::Assert(0, 4), 1), (Part::Comes(0, 1), 0), (Part::FailsIn(0, 1), 0)];
+    let left = [
+        (Part::Fails, 1),
+        (Part::Before(0, 1, 1), 3),
+        (Part::Broken(0, 0), 0),
+    ];
+    let broken = [
+        (Part::After(0, 0, 0), 1),
+        (Part::After(0, 0, 1), 3),
+        (Part::Assert(0, 4), 1),
+        (Part::Comes(0, 1), 0),
+        (Part::FailsIn(0, 1), 0),
+    ];
     assert!(rt; makes(alloc, &formula, &left, &broken)?);
     Ok(())
 }

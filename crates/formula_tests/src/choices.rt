@@ -32,13 +32,15 @@ fn a_havoc_takes_any_value(rt: HostRuntime) -> Result<(), Fail> {
     let formula = havocked(alloc)?;
     assert!(rt; is_over_once(alloc, &formula)?);
     let failing = [(Part::Fails, 1)];
-    assert!(rt; makes(alloc, &formula, &failing, &[(Part::Out(0), 6), (Part::Assert(0, 2), 1)])?);
-    for (y, z, wanted) in [
-        (5, 0, true),
-        (7, 0, true),
-        (0, 255, true),
-        (6, 0, false),
-    ] {
+    assert!(rt;
+        makes(
+            alloc,
+            &formula,
+            &failing,
+            &[(Part::Out(0), 6), (Part::Assert(0, 2), 1)]
+        )?
+    );
+    for (y, z, wanted) in [(5, 0, true), (7, 0, true), (0, 255, true), (6, 0, false)] {
         let facts = [(Part::Ended, 1), (Part::Out(0), y), (Part::Out(1), z)];
         assert!(rt; can_be(alloc, &formula, &facts)? == wanted);
     }

@@ -180,7 +180,11 @@ fn a_store_is_read_behind_its_branch(rt: HostRuntime) -> Result<(), Fail> {
     let alloc = rt.alloc();
     let formula = branch_with_store(alloc)?;
     assert!(rt; is_over_once(alloc, &formula)?);
-    let past = [(Part::Edge(0, 0), 0), (Part::Edge(0, 1), 1), (Part::Assert(3, 1), 1)];
+    let past = [
+        (Part::Edge(0, 0), 0),
+        (Part::Edge(0, 1), 1),
+        (Part::Assert(3, 1), 1),
+    ];
     assert!(rt; makes(alloc, &formula, &[(Part::Fails, 1)], &past)?);
     for (first, j, w, wanted) in [
         (1, 1, 7, true),
@@ -237,7 +241,14 @@ fn one_of_three_targets_is_passed(rt: HostRuntime) -> Result<(), Fail> {
             (Part::Edge(2, 0), second),
             (Part::Edge(3, 0), third),
         ];
-        assert!(rt; makes(alloc, &formula, &[(Part::Ended, 1), (Part::Out(0), y)], &then)?);
+        assert!(rt;
+            makes(
+                alloc,
+                &formula,
+                &[(Part::Ended, 1), (Part::Out(0), y)],
+                &then
+            )?
+        );
     }
     for (first, second, third) in [(1, 1, 0), (1, 0, 1), (0, 1, 1), (1, 1, 1), (0, 0, 0)] {
         let facts = [

@@ -37,6 +37,8 @@ pub enum Part {
     Before(u32, u32, usize),
     /// An out of the call.
     Returned(u32, u32, usize),
+    /// A global behind the call.
+    After(u32, u32, usize),
 }
 
 /// A part and its value, a bool's being 0 or 1.
@@ -93,6 +95,9 @@ fn node_of(formula: &Formula, part: Part) -> Result<usize, AllocError> {
             number(&site(instance, block, call)?.globals_before, place)
         }
         Part::Returned(block, call, place) => number(&site(instance, block, call)?.outs, place),
+        Part::After(block, call, place) => {
+            number(&site(instance, block, call)?.globals_after, place)
+        }
     };
     node.ok_or(AllocError)
 }

@@ -16,11 +16,7 @@ fn raised(alloc: Global, turn: u32) -> Result<FlatCmd, AllocError> {
 }
 
 // A diamond whose blocks are numbered from this one on: an assert, a branch that assigns one variable, and a branch that assigns none.
-fn push_diamond(
-    alloc: Global,
-    blocks: &mut Vec<FlatBlock>,
-    turn: u32,
-) -> Result<(), AllocError> {
+fn push_diamond(alloc: Global, blocks: &mut Vec<FlatBlock>, turn: u32) -> Result<(), AllocError> {
     let first = turn.checked_mul(3).ok_or(AllocError)?;
     let second = first.checked_add(1).ok_or(AllocError)?;
     let third = first.checked_add(2).ok_or(AllocError)?;

@@ -66,11 +66,7 @@ fn by_one(alloc: Global, var: Var, op: BvOp) -> Result<Expr, AllocError> {
 }
 
 // A block with at most one command, and where it goes; it returns where there is no target.
-fn block(
-    alloc: Global,
-    cmd: Option<FlatCmd>,
-    targets: &[u32],
-) -> Result<FlatBlock, AllocError> {
+fn block(alloc: Global, cmd: Option<FlatCmd>, targets: &[u32]) -> Result<FlatBlock, AllocError> {
     let mut cmds = Items::new(alloc);
     if let Some(cmd) = cmd {
         cmds.push(cmd)?;
