@@ -4,6 +4,7 @@
 
 mod circuits;
 mod extracting;
+mod formulas;
 mod reading;
 mod runs;
 mod shapes;
@@ -12,6 +13,7 @@ mod stores;
 mod values;
 
 use circuits::Circuit;
+use formulas::Extent;
 use hy_text::read_u64;
 use shapes::Shape;
 use std::alloc::Global;
@@ -45,6 +47,10 @@ enum Work {
     Extract(Shape, u64),
     /// Makes a program of so many loops, a failing run tree of its flat program, and the tree's choices.
     Back(u64),
+    /// Makes the terms of a procedure.
+    Terms(Extent),
+    /// Makes the clauses of a procedure.
+    Net(Extent),
 }
 
 /// The work that the words name; None where they name none.
@@ -77,6 +83,23 @@ fn shaped(kind: &str, shape: &str, size: &str) -> Option<Work> {
     match kind {
         "lower" => Some(Work::Lower(shape, size)),
         "extract" => Some(Work::Extract(shape, size)),
+        _ => None,
+    }
+}
+
+/// The work on a procedure that the words name; None where they name none.
+fn chosen_formula(kind: &str, blocks: &str, variables: &str) -> Option<Work> {
+    let blocks = read_u64(blocks.as_bytes()).ok()?;
+    let variables = read_u64(variables.as_bytes()).ok()?;
+    let extent = |returns: bool| Extent {
+        blocks,
+        variables,
+        returns,
+    };
+    match kind {
+        "terms" => Some(Work::Terms(extent(false))),
+        "returns" => Some(Work::Terms(extent(true))),
+        "net" => Some(Work::Net(extent(false))),
         _ => None,
     }
 }
@@ -129,6 +152,15 @@ fn tell_back(rt: &HostRuntime, alloc: Global, loops: u64) -> io::Result<()> {
     println!(rt; "back: {} nodes, {} choices", counts.nodes, counts.choices)
 }
 
+/// Prints how large the formula of a procedure is.
+fn tell_net(rt: &HostRuntime, alloc: Global, extent: Extent) -> io::Result<()> {
+    let sizes = formulas::count_net(alloc, extent)?;
+    println!(rt;
+        "net: {} blocks, {} variables, {} terms, {} gates, {} clauses",
+        extent.blocks, extent.variables, sizes.terms, sizes.gates, sizes.clauses
+    )
+}
+
 /// Does the work and prints its counts.
 fn run(rt: &HostRuntime, alloc: Global, work: Work) -> io::Result<()> {
     match work {
@@ -175,6 +207,14 @@ fn run(rt: &HostRuntime, alloc: Global, work: Work) -> io::Result<()> {
             tell_program(rt, "extract", extracting::extracted(alloc, shape, size)?)
         }
         Work::Back(size) => tell_back(rt, alloc, size),
+        Work::Terms(extent) => {
+            let terms = formulas::count_terms(alloc, extent)?;
+            println!(rt;
+                "terms: {} blocks, {} variables, {terms} terms",
+                extent.blocks, extent.variables
+            )
+        }
+        Work::Net(extent) => tell_net(rt, alloc, extent),
     }
 }
 
@@ -188,12 +228,16 @@ fn main(rt: HostRuntime) -> io::Result<()> {
     let work = match words.as_slice() {
         [kind, size] => chosen(kind.as_str(), size.as_str()),
         [kind, shape, size] => shaped(kind.as_str(), shape.as_str(), size.as_str()),
+        [kind, blocks, variables] => {
+            chosen_formula(kind.as_str(), blocks.as_str(), variables.as_str())
+        }
         _ => None,
     };
     match work {
         Some(work) => run(&rt, alloc, work),
         None => println!(rt;
             "usage: hydra_bench tokens MIB | parse MIB | show MIB | values THOUSANDS | solve VARIABLES | gates WIDTH | reduce STORES | blast STORES | decide STORES | back LOOPS | lower SHAPE SIZE | extract SHAPE SIZE, where SHAPE is procedures, nests or rows"
+            "usage: hydra_bench tokens MIB | parse MIB | show MIB | values THOUSANDS | solve VARIABLES | gates WIDTH | reduce STORES | blast STORES | decide STORES | terms BLOCKS VARIABLES | returns BLOCKS VARIABLES | net BLOCKS VARIABLES"
         ),
     }
 }

@@ -1,0 +1,5 @@
+pub mod Apart
+pub mod Lists
+pub mod Nodes
+pub mod Blocks
+pub mod Flats
