@@ -227,17 +227,18 @@ fn main(rt: HostRuntime) -> io::Result<()> {
     }
     let work = match words.as_slice() {
         [kind, size] => chosen(kind.as_str(), size.as_str()),
-        [kind, shape, size] => shaped(kind.as_str(), shape.as_str(), size.as_str()),
-        [kind, blocks, variables] => {
-            chosen_formula(kind.as_str(), blocks.as_str(), variables.as_str())
+        [kind, first, second] => {
+            match shaped(kind.as_str(), first.as_str(), second.as_str()) {
+                Some(work) => Some(work),
+                None => chosen_formula(kind.as_str(), first.as_str(), second.as_str()),
+            }
         }
         _ => None,
     };
     match work {
         Some(work) => run(&rt, alloc, work),
         None => println!(rt;
-            "usage: hydra_bench tokens MIB | parse MIB | show MIB | values THOUSANDS | solve VARIABLES | gates WIDTH | reduce STORES | blast STORES | decide STORES | back LOOPS | lower SHAPE SIZE | extract SHAPE SIZE, where SHAPE is procedures, nests or rows"
-            "usage: hydra_bench tokens MIB | parse MIB | show MIB | values THOUSANDS | solve VARIABLES | gates WIDTH | reduce STORES | blast STORES | decide STORES | terms BLOCKS VARIABLES | returns BLOCKS VARIABLES | net BLOCKS VARIABLES"
+            "usage: hydra_bench tokens MIB | parse MIB | show MIB | values THOUSANDS | solve VARIABLES | gates WIDTH | reduce STORES | blast STORES | decide STORES | back LOOPS | lower SHAPE SIZE | extract SHAPE SIZE | terms BLOCKS VARIABLES | returns BLOCKS VARIABLES | net BLOCKS VARIABLES, where SHAPE is procedures, nests or rows"
         ),
     }
 }
