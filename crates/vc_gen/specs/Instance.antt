@@ -54,6 +54,12 @@ start_sorts q (Loop p head) = []
 abbrev pub room : Limited → FlatProc → List ℕ → List Sort
 room flat q order = start_sorts q q.kind ++ sorts_of_blocks flat q order
 
+-- The variables from k on are those of the layout: so many, and the terms have their sorts where the old ones have them and the values of the new
+-- variables are of the layout's sorts, whatever these values are.
+pub record IsRoom (flat : Limited) (q : FlatProc) (order : List ℕ) (k : ℕ) (old new : List TermNode) (next : ℕ) : Type 0 where
+  pub next_is : next ≡ k + length (room flat q order)
+  pub fit : (a : ℕ → Value) → IsTrue (fits a old) → sorted_as (room flat q order) (reads a k (length (room flat q order))) ≡ true → IsTrue (fits a new)
+
 abbrev pub first_edge : Env → List Edge
 first_edge env = record { target = Some 0; live = true; env = env } ∷ []
 

@@ -26,7 +26,7 @@ use Rattle.vc_gen.specs.Signed.{SitesSigned}
 use Rattle.vc_gen.specs.Plans.{EndsPlanned, FailsPlanned}
 use Rattle.vc_gen.specs.Items.{bool_sort}
 use Rattle.vc_gen.specs.Fitting.{PassiveFits}
-use Rattle.vc_gen.specs.Instance.{NeverBoth, PartsThere, Built, EndsSound, EndsComplete, FailsSound, FailsComplete, EndsPlaced, FailsPlaced}
+use Rattle.vc_gen.specs.Instance.{NeverBoth, PartsThere, Built, EndsSound, EndsComplete, FailsSound, FailsComplete, EndsPlaced, FailsPlaced, IsRoom}
 
 -- a literal
 pub record IsLiteral (nodes : List TermNode) (t : ℕ) (bit : Bool) : Type 0 where
@@ -60,7 +60,7 @@ pub record NewVariables (old : List TermNode) (k : ℕ) (new : List TermNode) (n
 abbrev pub IsBuilt : List TermNode → Passive → Actuals → ℕ → List TermNode → Instance → Type 0
 IsBuilt old p actuals k new i = (flat : Limited) (q : FlatProc) (order : List ℕ) → p ≡ passive_of flat q order → AllThere flat q order →
     (left : List Wait) × Built flat q order actuals k old new left i.ended i.fails i.outs i.globals i.edges i.sites
-    × PartsThere flat.globals q.outs new i.ended i.fails i.outs i.globals i.edges i.asserts
+    × PartsThere flat.globals q.outs new i.ended i.fails i.outs i.globals i.edges i.asserts × IsRoom flat q order k old new i.next
 
 -- the assignments that make `ended` true are the runs that end
 abbrev pub SaysEnds : List TermNode → Passive → Actuals → ℕ → List TermNode → Instance → Type 0
@@ -94,6 +94,10 @@ HasSites p new i = (flat : Limited) (q : FlatProc) (order : List ℕ) → p ≡ 
 -- the end's bit, the fail bit, the outs, the globals, and the bits of edges and asserts are there with their sorts
 abbrev pub HasTerms : Passive → List TermNode → Instance → Type 0
 HasTerms p new i = (flat : Limited) (q : FlatProc) (order : List ℕ) → p ≡ passive_of flat q order → AllThere flat q order → PartsThere flat.globals q.outs new i.ended i.fails i.outs i.globals i.edges i.asserts
+
+-- the new variables have the sorts of the layout: as many as it has, and any values of these sorts will do
+abbrev pub HasRoom : List TermNode → Passive → ℕ → List TermNode → Instance → Type 0
+HasRoom old p k new i = (flat : Limited) (q : FlatProc) (order : List ℕ) → p ≡ passive_of flat q order → AllThere flat q order → IsRoom flat q order k old new i.next
 
 -- the sites whose bits are true are the calls of the path's blocks: all of them where the run ends, and the first ones where it fails
 abbrev pub HasPlaces : Passive → Actuals → List TermNode → Instance → Type 0
