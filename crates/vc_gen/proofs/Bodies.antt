@@ -333,6 +333,7 @@ module _ (cs : List ℕ) (spare : Wait) (old mid low new : List TermNode) (d e g
         sites = s.sites;
         sites_are = ap (λ (x : Draft). x.sites) o.frame ∙ s.sites_behind;
         sites_there = sites_stay low new s.sites o.later s.sites_there;
+        laid = s.laid;
         asserts = s.asserts;
         asserts_are = ap (λ (x : Draft). x.asserts) o.frame ∙ s.asserts_behind;
         asserts_there = fails_stay low new s.asserts o.later s.asserts_there;

@@ -27,6 +27,7 @@ use Rattle.vc_gen.specs.declared.parts.SiteTerm.{SiteTerm}
 use Rattle.vc_gen.specs.Standing.{Later, Plain, AreOf, variables_in}
 use Rattle.vc_gen.specs.Translate.{ReadsFit, Says as ExprSays}
 use Rattle.vc_gen.specs.Items.{bool_sort, ReadsIn, AllRead, AllThere, AreSorts, SiteMeans, chosen, made}
+use Rattle.vc_gen.specs.Laid.{Laid}
 use Rattle.vc_gen.specs.Emit.{AllBefore, AllBehind, AreVariables, row_of, Stands, ItemReady, ArgsReady, ArgsSay, Meant, Fresh, IsNot, Passed, terms_of, site_value, Says, Step}
 use Rattle.vc_gen.proofs.Looking.{take_at, take_all}
 use Rattle.vc_gen.proofs.Growth.{later_same, later_then, plain_same, plain_then, value_later, sort_later, sort_within, are_later, are_append, are_count, are_at, map_later}
@@ -288,6 +289,7 @@ module _ (cs : List ℕ) (block : ℕ) (old : List TermNode) (d : Draft) (p f : 
         sites_of = (record { proc_is = refl; outs_are = are_later m2 new ots outs l24 call.outs_are; changed_are = are_later m2 new gts after l24 call.after_are; after_is = refl }, tt);
         sites_behind = is ∙ ap (λ x. x ++ site ∷ []) (g_sites ∙ e_sites);
         numbered = ap {B = List (ℕ × ℕ)} (λ (i : ℕ). (block, i) ∷ []) same_calls;
+        laid = ap {B = List Laid} (λ (i : ℕ). record { block = block; call = i; proc = p; first = d.next } ∷ []) same_calls;
         calls = omega (arith, more_calls, same_calls);
         variables = p4.numbers ∙ p3.numbers ∙ fresh_numbers m1 m2 d e own fresh ∙ ap (λ r. r ++ numbers_from d.next (length own)) say.plain.numbers ∙ ap (λ i. variables_in old ++ numbers_from d.next i) count;
         asserts = [];

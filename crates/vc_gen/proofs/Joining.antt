@@ -1,5 +1,6 @@
 -- What is said of two lists of items is said of both together.
 use Rattle.vc_gen.proofs.Numbers.{numbers_then}
+use Rattle.vc_gen.proofs.Placed.{laid_then}
 use Rattle.vc_gen.specs.Passages.{places_from}
 use Rattle.std.proofs.Common.{◌≡◌, ℕ, zero, suc, ◌+◌, ◌<◌, ◌≤◌, Bool, true, false, not, ◌&&◌, ◌||◌, List, [], ◌∷◌, ◌++◌, map, length, arith, sym, ◌∙◌, ap, refl, subst, append-nil, append_assoc, length-append}
 use Rattle.std.specs.Prelude.{Option, None, Some, slice_get, take, IsTrue, IsSome}
@@ -281,6 +282,7 @@ step_nil cs block old d csorts vsorts h = record {
   sites_of = tt;
   sites_behind = sym (append-nil d.sites);
   numbered = refl;
+  laid = refl;
   calls = omega arith;
   variables = sym (append-nil (variables_in old));
   asserts = [];
@@ -313,6 +315,7 @@ step_then cs block old mid new d m e csorts vsorts xs ys h s t =
       numbered = map-append site_place s.sites t.sites ∙ ap (λ r. r ++ map site_place t.sites) s.numbered
           ∙ ap (λ r. places_from block d.calls (length s.sites) ++ r) (t.numbered ∙ ap (λ i. places_from block i (length t.sites)) s.calls)
           ∙ sym (ap (places_from block d.calls) (length-append s.sites t.sites) ∙ places_append block d.calls (length s.sites) (length t.sites));
+      laid = laid_then block s.sites t.sites xs ys d.calls d.next m.calls m.next s.laid s.calls s.next t.laid;
       calls = omega (arith, t.calls, s.calls, length-append s.sites t.sites);
       variables = numbers_then (variables_in old) (variables_in mid) (variables_in new) d.next m.next (length (chosen xs)) (length (chosen ys)) (length (chosen (xs ++ ys))) s.variables s.next t.variables n;
       asserts = s.asserts ++ t.asserts;

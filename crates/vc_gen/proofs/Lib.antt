@@ -22,6 +22,7 @@ pub mod Looking
 pub mod Replacing
 pub mod Growth
 pub mod Numbers
+pub mod Placed
 pub mod Nodes
 pub mod Walking
 pub mod Joining

@@ -128,6 +128,7 @@ module _ (cs : List ℕ) (block : ℕ) (old : List TermNode) (d : Draft) where
         sites_of = tt;
         sites_behind = sym (append-nil d.sites);
         numbered = refl;
+        laid = refl;
         calls = omega arith;
         variables = plain.numbers ∙ sym (append-nil (variables_in old));
         asserts = [];
@@ -164,6 +165,7 @@ module _ (cs : List ℕ) (block : ℕ) (old : List TermNode) (d : Draft) where
         sites_of = tt;
         sites_behind = sym (append-nil d.sites);
         numbered = refl;
+        laid = refl;
         calls = omega arith;
         variables = plain.numbers ∙ sym (append-nil (variables_in old));
         asserts = [];
@@ -200,6 +202,7 @@ module _ (cs : List ℕ) (block : ℕ) (old : List TermNode) (d : Draft) where
         sites_of = tt;
         sites_behind = sym (append-nil d.sites);
         numbered = refl;
+        laid = refl;
         calls = omega arith;
         variables = p2.numbers ∙ p1.numbers ∙ sym (append-nil (variables_in old));
         asserts = [];
@@ -247,6 +250,7 @@ module _ (cs : List ℕ) (block : ℕ) (old : List TermNode) (d : Draft) where
         sites_of = tt;
         sites_behind = same_sites;
         numbered = refl;
+        laid = refl;
         calls = omega (arith, ap (λ (x : Draft). x.calls) w.draft_is);
         variables = p3.numbers ∙ p2.numbers ∙ p1.numbers ∙ sym (append-nil (variables_in old));
         asserts = record { block = block; position = p; node = t } ∷ [];

@@ -45,6 +45,8 @@ use Rattle.vc_gen.proofs.Growth.{later_same, later_then}
 use Rattle.vc_gen.proofs.Joining.{sites_later, sites_stay, sites_there_append, fits_before, reads_append, length_reads, sorts_left, sorts_right, fails_stay, fails_there_append}
 use Rattle.vc_gen.proofs.Exacting.{marks_later, marks_stay, marks_there, marks_append, same_both, placed_append, placed_later}
 use Rattle.vc_gen.proofs.Blockwise.{alike_next, givens_push}
+use Rattle.vc_gen.specs.Laid.{blocks_laid}
+use Rattle.vc_gen.proofs.Placed.{laid_next}
 use Rattle.vc_gen.proofs.Signing.{signed_later, signed_both}
 
 pub fit_at : (csorts gsorts lsorts : List Sort) (bs : List PassiveBlock) (i : ℕ) (x : PassiveBlock) → AllFit csorts gsorts lsorts bs → i < length bs → x ≡ slice_index_or bs i x → BlockFits csorts gsorts lsorts x
@@ -74,6 +76,7 @@ went_start cs spare old d edges first bs r = record {
   sites = [];
   sites_are = sym (append-nil d.sites);
   sites_there = tt;
+  laid = refl;
   asserts = [];
   asserts_are = sym (append-nil d.asserts);
   asserts_there = tt;
@@ -208,6 +211,7 @@ went_next cs spare old mid new d m e edges edges1 edges2 first waits left bs i x
       sites = h.sites ++ k.sites;
       sites_are = k.sites_are ∙ ap (λ r. r ++ k.sites) h.sites_are ∙ append_assoc d.sites h.sites k.sites;
       sites_there = sites_there_append new h.sites k.sites (sites_stay mid new h.sites k.later h.sites_there) k.sites_there;
+      laid = laid_next h.sites k.sites (take i bs) x d.next m.next h.laid h.next k.laid ∙ sym (ap (blocks_laid d.next) taken);
       asserts = h.asserts ++ k.asserts;
       asserts_are = k.asserts_are ∙ ap (λ r. r ++ k.asserts) h.asserts_are ∙ append_assoc d.asserts h.asserts k.asserts;
       asserts_there = fails_there_append new h.asserts k.asserts (fails_stay mid new h.asserts k.later h.asserts_there) k.asserts_there;
@@ -293,6 +297,7 @@ went_whole cs spare old new d e edges edges1 first waits bs i l h =
       sites = h.sites;
       sites_are = h.sites_are;
       sites_there = h.sites_there;
+      laid = h.laid ∙ ap (blocks_laid d.next) all;
       asserts = h.asserts;
       asserts_are = h.asserts_are;
       asserts_there = h.asserts_there;

@@ -23,6 +23,7 @@ use Rattle.vc_gen.specs.declared.parts.Draft.{Draft}
 use Rattle.vc_gen.specs.declared.parts.SiteTerm.{SiteTerm}
 use Rattle.vc_gen.specs.declared.parts.FailTerm.{FailTerm}
 use Rattle.vc_gen.specs.Standing.{Later, Plain, AreOf, variables_in}
+use Rattle.vc_gen.specs.Laid.{site_laid, calls_laid}
 use Rattle.vc_gen.specs.Items.{bool_sort, AllRead, made, chosen, ItemFits, ItemsFit, SiteMeans, FailMeans, inputs, on_end, fails_in, sites_in, asserts_in}
 
 -- the constants and the versions, whose sorts are known, and the bits stand in the nodes; new variables are above all others
@@ -201,6 +202,7 @@ pub record Step (cs : List ℕ) (block : ℕ) (old : List TermNode) (d : Draft) 
   pub sites_of : SitesOf new items sites
   pub sites_behind : e.sites ≡ d.sites ++ sites
   pub numbered : map site_place sites ≡ places_from block d.calls (length sites)
+  pub laid : map site_laid sites ≡ calls_laid block d.calls d.next items
   pub calls : e.calls ≡ d.calls + length sites
   pub variables : variables_in new ≡ variables_in old ++ numbers_from d.next (length (chosen items))
   pub asserts : List FailTerm

@@ -31,6 +31,7 @@ use Rattle.vc_gen.specs.Standing.{Later, AreOf, variables_in}
 use Rattle.vc_gen.specs.Items.{bool_sort}
 use Rattle.vc_gen.specs.Emit.{FailsThere, site_value, SitesThere}
 use Rattle.vc_gen.specs.Signed.{SitesSigned}
+use Rattle.vc_gen.specs.Laid.{site_laid, calls_laid, blocks_laid}
 use Rattle.vc_gen.specs.Exact.{true_edges, EdgesThere, SameCalls, true_sites}
 use Rattle.vc_gen.specs.Inputs.{given_at, givens_at}
 use Rattle.vc_gen.specs.Instance.{all_at, edges_at}
@@ -92,6 +93,7 @@ pub record BlockDone (cs : List ℕ) (spare : Wait) (old : List TermNode) (d : D
   pub sites : List SiteTerm
   pub sites_are : e.sites ≡ d.sites ++ sites
   pub sites_there : SitesThere new sites
+  pub laid : map site_laid sites ≡ calls_laid block.number 0 d.next block.items
   pub asserts : List FailTerm
   pub asserts_are : e.asserts ≡ d.asserts ++ asserts
   pub asserts_there : FailsThere new asserts
@@ -132,6 +134,7 @@ pub record Went (cs : List ℕ) (spare : Wait) (old : List TermNode) (d : Draft)
   pub sites : List SiteTerm
   pub sites_are : e.sites ≡ d.sites ++ sites
   pub sites_there : SitesThere nodes sites
+  pub laid : map site_laid sites ≡ blocks_laid d.next (take i blocks)
   pub asserts : List FailTerm
   pub asserts_are : e.asserts ≡ d.asserts ++ asserts
   pub asserts_there : FailsThere nodes asserts
@@ -151,6 +154,7 @@ pub record WentAll (cs : List ℕ) (spare : Wait) (old : List TermNode) (d : Dra
   pub sites : List SiteTerm
   pub sites_are : e.sites ≡ d.sites ++ sites
   pub sites_there : SitesThere nodes sites
+  pub laid : map site_laid sites ≡ blocks_laid d.next blocks
   pub asserts : List FailTerm
   pub asserts_are : e.asserts ≡ d.asserts ++ asserts
   pub asserts_there : FailsThere nodes asserts

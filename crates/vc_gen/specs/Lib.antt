@@ -6,14 +6,15 @@ pub mod Passages
 pub mod BlockPlans
 pub mod Translate
 pub mod Items
+pub mod Inputs
+pub mod Fitting
+pub mod Laid
 pub mod Emit
 pub mod Signed
-pub mod Inputs
 pub mod Instance
 pub mod Joins
 pub mod Edges
 pub mod Entering
-pub mod Fitting
 pub mod Exact
 pub mod Flowing
 pub mod Plans

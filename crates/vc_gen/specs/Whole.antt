@@ -2,7 +2,7 @@
 use Rattle.flat_prog.specs.Shape.{IsFlat}
 use Rattle.flat_prog.specs.Program.{FlatProgram}
 use Rattle.flat_prog.specs.Sites.{numbers_from}
-use Rattle.std.specs.Prelude.{◌≡◌, ℕ, ◌+◌, Bool, true, List, [], ◌∷◌, ◌++◌, Some, slice_get, IsTrue, IsSome}
+use Rattle.std.specs.Prelude.{◌≡◌, ℕ, ◌+◌, Bool, true, List, [], ◌∷◌, ◌++◌, map, length, Some, slice_get, IsTrue, IsSome}
 use Rattle.hy_val.specs.Values.{is_on}
 use Rattle.hy_val.specs.declared.value.Value.{Value}
 use Rattle.hy_term.specs.TermSorts.{sorts, sort_at}
@@ -23,10 +23,11 @@ use Rattle.vc_gen.specs.declared.parts.Wait.{Wait}
 use Rattle.vc_gen.specs.Standing.{AreOf, variables_in}
 use Rattle.vc_gen.specs.Emit.{SitesThere}
 use Rattle.vc_gen.specs.Signed.{SitesSigned}
+use Rattle.vc_gen.specs.Laid.{site_laid, sites_laid}
 use Rattle.vc_gen.specs.Plans.{EndsPlanned, FailsPlanned}
 use Rattle.vc_gen.specs.Items.{bool_sort}
 use Rattle.vc_gen.specs.Fitting.{PassiveFits}
-use Rattle.vc_gen.specs.Instance.{NeverBoth, PartsThere, Built, EndsSound, EndsComplete, FailsSound, FailsComplete, EndsPlaced, FailsPlaced, IsRoom}
+use Rattle.vc_gen.specs.Instance.{NeverBoth, PartsThere, Built, EndsSound, EndsComplete, FailsSound, FailsComplete, EndsPlaced, FailsPlaced, IsRoom, start_sorts}
 
 -- a literal
 pub record IsLiteral (nodes : List TermNode) (t : ℕ) (bit : Bool) : Type 0 where
@@ -94,6 +95,10 @@ HasSites p new i = (flat : Limited) (q : FlatProc) (order : List ℕ) → p ≡ 
 -- the end's bit, the fail bit, the outs, the globals, and the bits of edges and asserts are there with their sorts
 abbrev pub HasTerms : Passive → List TermNode → Instance → Type 0
 HasTerms p new i = (flat : Limited) (q : FlatProc) (order : List ℕ) → p ≡ passive_of flat q order → AllThere flat q order → PartsThere flat.globals q.outs new i.ended i.fails i.outs i.globals i.edges i.asserts
+
+-- the sites are the calls of the blocks in the order, one for each, with the variables that the layout has for it
+abbrev pub IsLaidOut : Passive → ℕ → Instance → Type 0
+IsLaidOut p k i = (flat : Limited) (q : FlatProc) (order : List ℕ) → p ≡ passive_of flat q order → AllThere flat q order → map site_laid i.sites ≡ sites_laid flat q order (k + length (start_sorts q q.kind))
 
 -- the new variables have the sorts of the layout: as many as it has, and any values of these sorts will do
 abbrev pub HasRoom : List TermNode → Passive → ℕ → List TermNode → Instance → Type 0
