@@ -23,6 +23,8 @@ pub mod Replacing
 pub mod Growth
 pub mod Numbers
 pub mod Placed
+pub mod Differing
+pub mod OneEach
 pub mod Nodes
 pub mod Walking
 pub mod Joining

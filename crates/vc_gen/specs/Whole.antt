@@ -1,6 +1,7 @@
 -- A procedure becomes terms: what is asked for, and what its parts are.
 use Rattle.flat_prog.specs.Shape.{IsFlat}
 use Rattle.flat_prog.specs.Program.{FlatProgram}
+use Rattle.flat_prog.specs.Once.{numbers_differ}
 use Rattle.flat_prog.specs.Sites.{numbers_from}
 use Rattle.std.specs.Prelude.{◌≡◌, ℕ, ◌+◌, Bool, true, List, [], ◌∷◌, ◌++◌, map, length, Some, slice_get, IsTrue, IsSome}
 use Rattle.hy_val.specs.Values.{is_on}
@@ -120,3 +121,7 @@ PassiveReady =
 
 abbrev pub SortedThere : Type 0
 SortedThere = (flat : Limited) (q : FlatProc) (n : ℕ) (b : FlatBlock) → ProcSorted flat q → slice_get q.blocks n ≡ Some b → cmds_there flat q b.cmds ≡ true
+
+-- the order of a passive form has no block twice
+abbrev pub BlocksStandOnce : Type 0
+BlocksStandOnce = (flat : Limited) (q : FlatProc) (p : Passive) → (is : IsPassiveOf flat q p) → numbers_differ is.order ≡ true
