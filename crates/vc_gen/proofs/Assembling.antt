@@ -38,8 +38,9 @@ use Rattle.vc_gen.specs.Standing.{Later, Plain, AreOf, variables_in}
 use Rattle.vc_gen.specs.Items.{bool_sort, SiteMeans, made, chosen}
 use Rattle.vc_gen.specs.Emit.{Stands, ItemsReady, Step, terms_of, site_value, SitesThere, FailsThere}
 use Rattle.vc_gen.specs.declared.parts.SiteTerm.{SiteTerm}
-use Rattle.vc_gen.specs.Signed.{SitesSigned}
+use Rattle.vc_gen.specs.Signed.{SitesSigned, SitesAsked}
 use Rattle.vc_gen.specs.Laid.{site_laid, sites_laid}
+use Rattle.vc_gen.proofs.Asking.{asked_later}
 use Rattle.vc_gen.proofs.Placed.{none_laid, start_laid, order_laid}
 use Rattle.vc_gen.proofs.Signing.{signed_later, signed_both, start_signed}
 use Rattle.vc_gen.specs.Inputs.{sorts_of_block, sorts_of_blocks, givens_at}
@@ -285,6 +286,9 @@ built_of flat q order old n2 n3 n4 new actuals k lit1 lit0 e g edges left end th
       laid =
           let none : s.sites ≡ [] = none_laid s.sites (s.laid ∙ start_laid flat q q.kind 0 0 k) in
           ap (map site_laid) (h.went.sites_are ∙ ap (λ r. r ++ h.went.sites) (s.sites_behind ∙ none)) ∙ h.went.laid ∙ order_laid flat q order e.next ∙ ap (sites_laid flat q order) next_is;
+      asked = λ sorted.
+          let none : s.sites ≡ [] = none_laid s.sites (s.laid ∙ start_laid flat q q.kind 0 0 k) in
+          subst (λ (ss : List SiteTerm). SitesAsked flat new ss) (sym (h.went.sites_are ∙ ap (λ r. r ++ h.went.sites) (s.sites_behind ∙ none))) (asked_later flat n4 new h.went.sites h.later (says.asked sorted));
       ended_is = λ a f. h.entered.live_is a (all_at a new cs) f ∙ met_is a;
       outs_are = λ a f on.
           outs_are a new end.locals q.ins q.outs q.locals w.locals ∙ ap (λ (v : Env). outs_of q v.locals) (end_is a f on);

@@ -23,7 +23,8 @@ use Rattle.vc_gen.specs.Breaking.{breaks, breaks_seen}
 use Rattle.vc_gen.specs.Passages.{Passage, passages, passages_seen, targets_on, places_from}
 use Rattle.vc_gen.proofs.Marks.{out_targets}
 use Rattle.vc_gen.specs.Alike.{Alike}
-use Rattle.vc_gen.specs.Emit.{SitesOf, Stands, ItemsReady, Step, terms_of, site_value}
+use Rattle.vc_gen.specs.Emit.{SitesOf, SitesAsk, Stands, ItemsReady, Step, terms_of, site_value}
+use Rattle.vc_gen.proofs.Asking.{block_asked, asked_later}
 use Rattle.vc_gen.proofs.Signing.{signed_later, cmds_signed}
 use Rattle.passive_form.specs.declared.Item.{Item}
 use Rattle.passive_form.specs.declared.PassiveBlock.{PassiveBlock}
@@ -307,6 +308,11 @@ module _ (cs : List ℕ) (spare : Wait) (old mid low new : List TermNode) (d e g
         calls = calls_same;
         places = λ a dead f. placed_same a new m 0 s.sites (passages_seen flat q (seen_at dead (given_at flat q a d.next m) (es a))) (s.numbered ∙ ap (λ x. places_from x 0 (length s.sites)) number_is) (calls_same a dead f);
         signed = signed_later flat low new s.sites o.later (cmds_signed flat q (entry_cur flat q) 0 (entry_count flat q) b.cmds low s.sites (subst (λ (x : PassiveBlock). SitesOf low x.items s.sites) is s.sites_of));
+        asked = λ sorted.
+            asked_later flat low new s.sites o.later
+            (block_asked flat q b.cmds low s.sites sorted.globals (sorted.blocks m b at).0
+            (subst (λ (x : PassiveBlock). SitesAsk low (flat.globals ++ variables_of q) x.items s.sites) is
+            (s.asked flat.consts (flat.globals ++ variables_of q) (entry_stands flat.consts flat.globals (variables_of q) old mid cs spare d waits (Some block.number) entry h l1 p1 n))));
         fails = λ a dead f.
             let f1 = fits_before a low new o.later f in
             bit_fails a

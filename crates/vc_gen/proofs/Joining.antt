@@ -1,6 +1,7 @@
 -- What is said of two lists of items is said of both together.
 use Rattle.vc_gen.proofs.Numbers.{numbers_then}
 use Rattle.vc_gen.proofs.Placed.{laid_then}
+use Rattle.vc_gen.proofs.Asks.{asks_later, asks_both}
 use Rattle.vc_gen.specs.Passages.{places_from}
 use Rattle.std.proofs.Common.{◌≡◌, ℕ, zero, suc, ◌+◌, ◌<◌, ◌≤◌, Bool, true, false, not, ◌&&◌, ◌||◌, List, [], ◌∷◌, ◌++◌, map, length, arith, sym, ◌∙◌, ap, refl, subst, append-nil, append_assoc, length-append}
 use Rattle.std.specs.Prelude.{Option, None, Some, slice_get, take, IsTrue, IsSome}
@@ -281,6 +282,7 @@ step_nil cs block old d csorts vsorts h = record {
   sites_there = tt;
   sites_of = tt;
   sites_behind = sym (append-nil d.sites);
+  asked = λ csorts vsorts _. tt;
   numbered = refl;
   laid = refl;
   calls = omega arith;
@@ -312,6 +314,8 @@ step_then cs block old mid new d m e csorts vsorts xs ys h s t =
       sites_there = sites_there_append new s.sites t.sites (sites_stay mid new s.sites t.later s.sites_there) t.sites_there;
       sites_of = of_both new xs ys s.sites t.sites (of_later mid new xs s.sites t.later s.sites_of) t.sites_of;
       sites_behind = t.sites_behind ∙ ap (λ r. r ++ t.sites) s.sites_behind ∙ append_assoc d.sites s.sites t.sites;
+      asked = λ cs2 vs2 h2.
+          asks_both new vs2 xs ys s.sites t.sites (asks_later mid new vs2 xs s.sites t.later (s.asked cs2 vs2 h2)) (t.asked cs2 (vs2 ++ made xs) (stands_then cs block old mid d m cs2 vs2 xs h2 s));
       numbered = map-append site_place s.sites t.sites ∙ ap (λ r. r ++ map site_place t.sites) s.numbered
           ∙ ap (λ r. places_from block d.calls (length s.sites) ++ r) (t.numbered ∙ ap (λ i. places_from block i (length t.sites)) s.calls)
           ∙ sym (ap (places_from block d.calls) (length-append s.sites t.sites) ∙ places_append block d.calls (length s.sites) (length t.sites));

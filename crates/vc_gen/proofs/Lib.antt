@@ -23,6 +23,7 @@ pub mod Replacing
 pub mod Growth
 pub mod Numbers
 pub mod Placed
+pub mod Asks
 pub mod Differing
 pub mod OneEach
 pub mod Nodes
@@ -56,6 +57,7 @@ pub mod Sortable
 pub mod Shards
 pub mod Faults
 pub mod Fitness
+pub mod Asking
 pub mod Rows
 pub mod Planning
 pub mod Stopping

@@ -127,6 +127,7 @@ module _ (cs : List ℕ) (block : ℕ) (old : List TermNode) (d : Draft) where
         sites_there = tt;
         sites_of = tt;
         sites_behind = sym (append-nil d.sites);
+        asked = λ csorts vsorts _. tt;
         numbered = refl;
         laid = refl;
         calls = omega arith;
@@ -164,6 +165,7 @@ module _ (cs : List ℕ) (block : ℕ) (old : List TermNode) (d : Draft) where
         sites_there = tt;
         sites_of = tt;
         sites_behind = sym (append-nil d.sites);
+        asked = λ csorts vsorts _. tt;
         numbered = refl;
         laid = refl;
         calls = omega arith;
@@ -201,6 +203,7 @@ module _ (cs : List ℕ) (block : ℕ) (old : List TermNode) (d : Draft) where
         sites_there = tt;
         sites_of = tt;
         sites_behind = sym (append-nil d.sites);
+        asked = λ csorts vsorts _. tt;
         numbered = refl;
         laid = refl;
         calls = omega arith;
@@ -249,6 +252,7 @@ module _ (cs : List ℕ) (block : ℕ) (old : List TermNode) (d : Draft) where
         sites_there = tt;
         sites_of = tt;
         sites_behind = same_sites;
+        asked = λ csorts vsorts _. tt;
         numbered = refl;
         laid = refl;
         calls = omega (arith, ap (λ (x : Draft). x.calls) w.draft_is);

@@ -47,6 +47,7 @@ use Rattle.vc_gen.proofs.Exacting.{marks_later, marks_stay, marks_there, marks_a
 use Rattle.vc_gen.proofs.Blockwise.{alike_next, givens_push}
 use Rattle.vc_gen.specs.Laid.{blocks_laid}
 use Rattle.vc_gen.proofs.Placed.{laid_next}
+use Rattle.vc_gen.proofs.Asking.{asked_later, asked_both}
 use Rattle.vc_gen.proofs.Signing.{signed_later, signed_both}
 
 pub fit_at : (csorts gsorts lsorts : List Sort) (bs : List PassiveBlock) (i : ℕ) (x : PassiveBlock) → AllFit csorts gsorts lsorts bs → i < length bs → x ≡ slice_index_or bs i x → BlockFits csorts gsorts lsorts x
@@ -91,6 +92,7 @@ went_start cs spare old d edges first bs r = record {
     calls = λ a dead f. tt;
     places = λ a dead f. refl;
     signed = tt;
+    asked = λ sorted. tt;
   };
 }
   where
@@ -265,6 +267,7 @@ went_next cs spare old mid new d m e edges edges1 edges2 first waits left bs i x
                 ∙ ap (λ r. r ++ true_sites a new k.sites) (placed_later mid new a h.sites k.later h.sites_there ∙ w.places a dead f1)
                 ∙ ap (λ r. all_places flat q sn ++ r) (b.places a dead f ∙ alike_places flat q dead (g a) (es a) fs (w.alike a dead f1))
                 ∙ sym (ap (λ (x : List Given). all_places flat q (seen flat q dead x (start a))) (row a) ∙ ap (all_places flat q) (seen_push flat q dead (gs a) (g a) (start a)) ∙ places_push flat q sn (seen_at dead (g a) fs));
+            asked = λ sorted. asked_both flat new h.sites k.sites (asked_later flat mid new h.sites k.later (w.asked sorted)) (b.asked sorted);
             signed = signed_both flat new h.sites k.sites (signed_later flat mid new h.sites k.later w.signed) b.signed;
             calls = λ a dead f.
                 let fs = fold flat q dead (gs a) (start a) in

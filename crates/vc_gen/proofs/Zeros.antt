@@ -104,6 +104,7 @@ step_free cs block old new d e v t s r w p =
       sites_there = tt;
       sites_of = tt;
       sites_behind = ap (λ (x : Draft). x.sites) w.draft_is ∙ sym (append-nil d.sites);
+      asked = λ csorts vsorts _. tt;
       numbered = refl;
       laid = refl;
       calls = omega (arith, ap (λ (x : Draft). x.calls) w.draft_is);

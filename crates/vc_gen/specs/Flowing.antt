@@ -30,7 +30,8 @@ use Rattle.vc_gen.specs.declared.parts.FailTerm.{FailTerm}
 use Rattle.vc_gen.specs.Standing.{Later, AreOf, variables_in}
 use Rattle.vc_gen.specs.Items.{bool_sort}
 use Rattle.vc_gen.specs.Emit.{FailsThere, site_value, SitesThere}
-use Rattle.vc_gen.specs.Signed.{SitesSigned}
+use Rattle.passive_form.specs.WellSorted.{ProcSorted}
+use Rattle.vc_gen.specs.Signed.{SitesSigned, SitesAsked}
 use Rattle.vc_gen.specs.Laid.{site_laid, calls_laid, blocks_laid}
 use Rattle.vc_gen.specs.Exact.{true_edges, EdgesThere, SameCalls, true_sites}
 use Rattle.vc_gen.specs.Inputs.{given_at, givens_at}
@@ -84,6 +85,7 @@ pub record BlockSays (flat : Limited) (q : FlatProc) (n : ℕ) (cs : List ℕ) (
   pub places : (a : ℕ → Value) (dead : Env) → IsTrue (fits a new) →
       true_sites a new sites ≡ places_seen flat q (seen_at dead (given_at flat q a d.next n) (edges_at a old (all_at a old cs) waits))
   pub signed : SitesSigned flat new sites
+  pub asked : ProcSorted flat q → SitesAsked flat new sites
 
 pub record BlockDone (cs : List ℕ) (spare : Wait) (old : List TermNode) (d : Draft) (waits : List Wait) (edges : List EdgeTerm) (block : PassiveBlock) (new : List TermNode) (e : Draft) (edges' : List EdgeTerm) (left : List Wait) : Type 0 where
   pub later : Later old new
@@ -116,6 +118,7 @@ pub record WentSays (flat : Limited) (q : FlatProc) (order : List ℕ) (cs : Lis
   pub places : (a : ℕ → Value) (dead : Env) → IsTrue (fits a nodes) →
       true_sites a nodes sites ≡ all_places flat q (seen flat q dead (givens_at flat q a d.next order) (edges_at a old (all_at a old cs) first))
   pub signed : SitesSigned flat nodes sites
+  pub asked : ProcSorted flat q → SitesAsked flat nodes sites
 
 -- all that the blocks ask for
 pub record FlowReady (nodes : List TermNode) (cs : List ℕ) (spare : Wait) (d : Draft) (first : List Wait) (blocks : List PassiveBlock) : Type 0 where

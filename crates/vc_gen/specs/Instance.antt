@@ -29,7 +29,8 @@ use Rattle.vc_gen.specs.declared.parts.FailTerm.{FailTerm}
 use Rattle.vc_gen.specs.Emit.{site_value, SitesThere, FailsThere}
 use Rattle.vc_gen.specs.Exact.{true_edges, EdgesThere, SameCalls, asked, given_back, true_sites}
 use Rattle.vc_gen.specs.Standing.{Later, AreOf}
-use Rattle.vc_gen.specs.Signed.{SitesSigned}
+use Rattle.passive_form.specs.WellSorted.{ProcSorted}
+use Rattle.vc_gen.specs.Signed.{SitesSigned, SitesAsked}
 use Rattle.vc_gen.specs.Laid.{site_laid, sites_laid}
 use Rattle.vc_gen.specs.Inputs.{sorts_of_blocks, givens_at}
 
@@ -92,6 +93,7 @@ pub record Built (flat : Limited) (q : FlatProc) (order : List ℕ) (actuals : A
       true_sites a new sites ≡ all_places flat q (seen flat q (env a) (givens_at flat q a (k + length (start_sorts q q.kind)) order) (first_edge (env a)))
   pub sites_there : SitesThere new sites
   pub signed : SitesSigned flat new sites
+  pub asked : ProcSorted flat q → SitesAsked flat new sites
   pub laid : map site_laid sites ≡ sites_laid flat q order (k + length (start_sorts q q.kind))
   pub ended_is : (a : ℕ → Value) → IsTrue (fits a new) → is_on (value a new ended) ≡ ends (edges_at a new (all_at a new actuals.consts) left)
   pub outs_are : (a : ℕ → Value) → IsTrue (fits a new) → ends (edges_at a new (all_at a new actuals.consts) left) ≡ true →

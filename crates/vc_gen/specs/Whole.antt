@@ -23,7 +23,7 @@ use Rattle.vc_gen.specs.declared.parts.Instance.{Instance}
 use Rattle.vc_gen.specs.declared.parts.Wait.{Wait}
 use Rattle.vc_gen.specs.Standing.{AreOf, variables_in}
 use Rattle.vc_gen.specs.Emit.{SitesThere}
-use Rattle.vc_gen.specs.Signed.{SitesSigned}
+use Rattle.vc_gen.specs.Signed.{SitesSigned, SitesAsked}
 use Rattle.vc_gen.specs.Laid.{site_laid, sites_laid}
 use Rattle.vc_gen.specs.Plans.{EndsPlanned, FailsPlanned}
 use Rattle.vc_gen.specs.Items.{bool_sort}
@@ -96,6 +96,10 @@ HasSites p new i = (flat : Limited) (q : FlatProc) (order : List ℕ) → p ≡ 
 -- the end's bit, the fail bit, the outs, the globals, and the bits of edges and asserts are there with their sorts
 abbrev pub HasTerms : Passive → List TermNode → Instance → Type 0
 HasTerms p new i = (flat : Limited) (q : FlatProc) (order : List ℕ) → p ≡ passive_of flat q order → AllThere flat q order → PartsThere flat.globals q.outs new i.ended i.fails i.outs i.globals i.edges i.asserts
+
+-- where the procedure has its sorts, each site is asked for values of its callee's sorts, and for all globals
+abbrev pub HasRequests : Passive → List TermNode → Instance → Type 0
+HasRequests p new i = (flat : Limited) (q : FlatProc) (order : List ℕ) → p ≡ passive_of flat q order → AllThere flat q order → ProcSorted flat q → SitesAsked flat new i.sites
 
 -- the sites are the calls of the blocks in the order, one for each, with the variables that the layout has for it
 abbrev pub IsLaidOut : Passive → ℕ → Instance → Type 0
