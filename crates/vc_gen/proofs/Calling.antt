@@ -309,6 +309,7 @@ module _ (cs : List ℕ) (block : ℕ) (old : List TermNode) (d : Draft) (p f : 
         asserts = [];
         asserts_there = tt;
         asserts_behind = g_asserts ∙ e_asserts ∙ sym (append-nil d.asserts);
+        checked = refl;
         says = λ a consts vals fit m.
             let f3 = fits_before a m3 new l4 fit in
             let f2 = fits_before a m2 m3 l3 f3 in

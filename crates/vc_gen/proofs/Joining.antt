@@ -1,6 +1,7 @@
 -- What is said of two lists of items is said of both together.
 use Rattle.vc_gen.proofs.Numbers.{numbers_then}
 use Rattle.vc_gen.proofs.Placed.{laid_then}
+use Rattle.vc_gen.proofs.Checked.{checks_then}
 use Rattle.vc_gen.proofs.Asks.{asks_later, asks_both}
 use Rattle.vc_gen.specs.Passages.{places_from}
 use Rattle.std.proofs.Common.{◌≡◌, ℕ, zero, suc, ◌+◌, ◌<◌, ◌≤◌, Bool, true, false, not, ◌&&◌, ◌||◌, List, [], ◌∷◌, ◌++◌, map, length, arith, sym, ◌∙◌, ap, refl, subst, append-nil, append_assoc, length-append}
@@ -290,6 +291,7 @@ step_nil cs block old d csorts vsorts h = record {
   asserts = [];
   asserts_there = tt;
   asserts_behind = sym (append-nil d.asserts);
+  checked = refl;
   says = λ a consts vals f m. record { defined = tt; on = refl; fails = refl; inputs_are = refl; sites_are = refl; asserts_are = refl };
   fit = λ a f k. f;
 }
@@ -324,6 +326,7 @@ step_then cs block old mid new d m e csorts vsorts xs ys h s t =
       variables = numbers_then (variables_in old) (variables_in mid) (variables_in new) d.next m.next (length (chosen xs)) (length (chosen ys)) (length (chosen (xs ++ ys))) s.variables s.next t.variables n;
       asserts = s.asserts ++ t.asserts;
       asserts_there = fails_there_append new s.asserts t.asserts (fails_stay mid new s.asserts t.later s.asserts_there) t.asserts_there;
+      checked = checks_then block s.asserts t.asserts xs ys s.checked t.checked;
       asserts_behind = t.asserts_behind ∙ ap (λ r. r ++ t.asserts) s.asserts_behind ∙ append_assoc d.asserts s.asserts t.asserts;
       says = λ a consts vals f w.
           let two = t.says a consts vals f w in

@@ -23,6 +23,10 @@ pub mod Replacing
 pub mod Growth
 pub mod Numbers
 pub mod Placed
+pub mod Checked
+pub mod Counting
+pub mod Singling
+pub mod Failed
 pub mod Asks
 pub mod Differing
 pub mod OneEach

@@ -135,6 +135,7 @@ module _ (cs : List ℕ) (block : ℕ) (old : List TermNode) (d : Draft) where
         asserts = [];
         asserts_there = tt;
         asserts_behind = sym (append-nil d.asserts);
+        checked = refl;
         says = λ a consts vals f m.
             let back = meant_back a old new cs d.versions (t ∷ []) vs r.csorts r.vsorts consts vals later st.consts st.versions is m in
             record {
@@ -173,6 +174,7 @@ module _ (cs : List ℕ) (block : ℕ) (old : List TermNode) (d : Draft) where
         asserts = [];
         asserts_there = tt;
         asserts_behind = sym (append-nil d.asserts);
+        checked = refl;
         says = λ a consts vals f m. record {
           defined = (m.each v t (ap (λ xs. slice_get xs v) is ∙ pushed_at d.versions t v (length r.vsorts) r.fit.0 (are_count old d.versions r.vsorts st.versions)) ∙ zero_is a, tt);
           on = bit_later old new a d.cond later st.cond;
@@ -211,6 +213,7 @@ module _ (cs : List ℕ) (block : ℕ) (old : List TermNode) (d : Draft) where
         asserts = [];
         asserts_there = tt;
         asserts_behind = sym (append-nil d.asserts);
+        checked = refl;
         says = λ a consts vals f m.
             let back = meant_back a old new cs d.versions [] d.versions r.csorts r.vsorts consts vals later st.consts st.versions (sym (append-nil d.versions)) m in
             record {
@@ -260,6 +263,7 @@ module _ (cs : List ℕ) (block : ℕ) (old : List TermNode) (d : Draft) where
         asserts = record { block = block; position = p; node = t } ∷ [];
         asserts_there = (w.sort, tt);
         asserts_behind = is ∙ ap (λ xs. xs ++ record { block = block; position = p; node = t } ∷ []) same_asserts;
+        checked = refl;
         says = λ a consts vals f m.
             let f2 = fits_before a m2 new l3 f in
             let f1 = fits_before a m1 m2 l2 f2 in

@@ -112,6 +112,7 @@ step_free cs block old new d e v t s r w p =
       asserts = [];
       asserts_there = tt;
       asserts_behind = ap (λ (x : Draft). x.asserts) w.draft_is ∙ sym (append-nil d.asserts);
+      checked = refl;
       says = λ a consts vals f m.
           let is : vals v ≡ value a new t = m.each v t (ap (λ xs. slice_get xs v) p ∙ pushed_at d.versions t v (length r.vsorts) r.fit.0 (are_count old d.versions r.vsorts st.versions)) in
           let read : value a new t ∷ [] ≡ reads a d.next 1 = ap (map (at (values a new))) (sym more_is) ∙ w.read a in

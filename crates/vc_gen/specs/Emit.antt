@@ -24,6 +24,7 @@ use Rattle.vc_gen.specs.declared.parts.SiteTerm.{SiteTerm}
 use Rattle.vc_gen.specs.declared.parts.FailTerm.{FailTerm}
 use Rattle.vc_gen.specs.Standing.{Later, Plain, AreOf, variables_in}
 use Rattle.vc_gen.specs.Laid.{site_laid, calls_laid}
+use Rattle.vc_gen.specs.Singly.{assert_place, checks_at}
 use Rattle.vc_gen.specs.Fitting.{SortsAre}
 use Rattle.vc_gen.specs.Items.{bool_sort, AllRead, sorts_of_all, made_by, made, chosen, ItemFits, ItemsFit, SiteMeans, FailMeans, inputs, on_end, fails_in, sites_in, asserts_in}
 
@@ -229,6 +230,7 @@ pub record Step (cs : List ℕ) (block : ℕ) (old : List TermNode) (d : Draft) 
   pub asserts : List FailTerm
   pub asserts_there : FailsThere new asserts
   pub asserts_behind : e.asserts ≡ d.asserts ++ asserts
+  pub checked : map assert_place asserts ≡ checks_at block items
   pub says : (a : ℕ → Value) (consts : List Value) (vals : ℕ → Value) → IsTrue (fits a new) → Meant a new cs e.versions consts vals → Says cs block old d items new e sites asserts a consts vals
   pub fit : (a : ℕ → Value) → IsTrue (fits a old) → sorted_as (chosen items) (reads a d.next (length (chosen items))) ≡ true → IsTrue (fits a new)
 

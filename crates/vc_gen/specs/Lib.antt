@@ -9,6 +9,7 @@ pub mod Items
 pub mod Inputs
 pub mod Fitting
 pub mod Laid
+pub mod Singly
 pub mod Emit
 pub mod Signed
 pub mod Instance

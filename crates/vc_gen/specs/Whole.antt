@@ -25,6 +25,7 @@ use Rattle.vc_gen.specs.Standing.{AreOf, variables_in}
 use Rattle.vc_gen.specs.Emit.{SitesThere}
 use Rattle.vc_gen.specs.Signed.{SitesSigned, SitesAsked}
 use Rattle.vc_gen.specs.Laid.{site_laid, sites_laid}
+use Rattle.vc_gen.specs.Singly.{FailsOnce, assert_place, asserts_laid}
 use Rattle.vc_gen.specs.Plans.{EndsPlanned, FailsPlanned}
 use Rattle.vc_gen.specs.Items.{bool_sort}
 use Rattle.vc_gen.specs.Fitting.{PassiveFits}
@@ -62,7 +63,7 @@ pub record NewVariables (old : List TermNode) (k : ℕ) (new : List TermNode) (n
 abbrev pub IsBuilt : List TermNode → Passive → Actuals → ℕ → List TermNode → Instance → Type 0
 IsBuilt old p actuals k new i = (flat : Limited) (q : FlatProc) (order : List ℕ) → p ≡ passive_of flat q order → AllThere flat q order →
     (left : List Wait) × Built flat q order actuals k old new left i.ended i.fails i.outs i.globals i.edges i.sites
-    × PartsThere flat.globals q.outs new i.ended i.fails i.outs i.globals i.edges i.asserts × IsRoom flat q order k old new i.next
+    × PartsThere flat.globals q.outs new i.ended i.fails i.outs i.globals i.edges i.asserts × IsRoom flat q order k old new i.next × FailsOnce new i.fails i.asserts i.sites × (map assert_place i.asserts ≡ asserts_laid q order)
 
 -- the assignments that make `ended` true are the runs that end
 abbrev pub SaysEnds : List TermNode → Passive → Actuals → ℕ → List TermNode → Instance → Type 0
@@ -96,6 +97,12 @@ HasSites p new i = (flat : Limited) (q : FlatProc) (order : List ℕ) → p ≡ 
 -- the end's bit, the fail bit, the outs, the globals, and the bits of edges and asserts are there with their sorts
 abbrev pub HasTerms : Passive → List TermNode → Instance → Type 0
 HasTerms p new i = (flat : Limited) (q : FlatProc) (order : List ℕ) → p ≡ passive_of flat q order → AllThere flat q order → PartsThere flat.globals q.outs new i.ended i.fails i.outs i.globals i.edges i.asserts
+
+-- where the run fails exactly one bit is true among those of the asserts and those of the calls that fail, else none; and the asserts are those of the
+-- blocks in the order, one for each
+abbrev pub FailsAtOne : Passive → List TermNode → Instance → Type 0
+FailsAtOne p new i =
+    (flat : Limited) (q : FlatProc) (order : List ℕ) → p ≡ passive_of flat q order → AllThere flat q order → FailsOnce new i.fails i.asserts i.sites × (map assert_place i.asserts ≡ asserts_laid q order)
 
 -- where the procedure has its sorts, each site is asked for values of its callee's sorts, and for all globals
 abbrev pub HasRequests : Passive → List TermNode → Instance → Type 0
