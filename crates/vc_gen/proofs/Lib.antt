@@ -23,6 +23,7 @@ pub mod Replacing
 pub mod Growth
 pub mod Numbers
 pub mod Placed
+pub mod Earlier
 pub mod Checked
 pub mod Counting
 pub mod Singling

@@ -13,6 +13,7 @@ pub mod Singly
 pub mod Emit
 pub mod Signed
 pub mod Instance
+pub mod Requests
 pub mod Joins
 pub mod Edges
 pub mod Entering
