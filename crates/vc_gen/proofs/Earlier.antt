@@ -33,7 +33,7 @@ node_same a b k known (If test one other) h l = refl
 node_same a b k known (Select map index) h l = refl
 node_same a b k known (Store map index value) h l = refl
 
-values_same : (a b : ℕ → Value) (k : ℕ) (known : List Value) (nodes : List TermNode) → ((n : ℕ) → n < k → a n ≡ b n) → below k nodes ≡ true → values_onto a known nodes ≡ values_onto b known nodes
+pub values_same : (a b : ℕ → Value) (k : ℕ) (known : List Value) (nodes : List TermNode) → ((n : ℕ) → n < k → a n ≡ b n) → below k nodes ≡ true → values_onto a known nodes ≡ values_onto b known nodes
 values_same a b k known [] h l = refl
 values_same a b k known (node ∷ nodes) h l =
     ap (λ v. values_onto a (known ++ v ∷ []) nodes) (node_same a b k known node h (and_first (node_below k node) (below k nodes) l))

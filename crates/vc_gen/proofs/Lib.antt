@@ -24,6 +24,7 @@ pub mod Growth
 pub mod Numbers
 pub mod Placed
 pub mod Earlier
+pub mod Staying
 pub mod Checked
 pub mod Counting
 pub mod Singling

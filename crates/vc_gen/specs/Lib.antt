@@ -13,7 +13,6 @@ pub mod Singly
 pub mod Emit
 pub mod Signed
 pub mod Instance
-pub mod Requests
 pub mod Joins
 pub mod Edges
 pub mod Entering
@@ -21,3 +20,4 @@ pub mod Exact
 pub mod Flowing
 pub mod Plans
 pub mod Whole
+pub mod Requests
