@@ -1,6 +1,5 @@
 -- What the sites of a procedure are asked for has its sorts: arguments those of the callee's ins, and all globals.
-use Rattle.std.proofs.Common.{◌≡◌, ℕ, zero, suc, ◌+◌, List, [], ◌∷◌, ◌++◌, map, length, sym, ◌∙◌, ap, refl, subst, append-nil, append_assoc, length-append}
-use Rattle.std.specs.Prelude.{Option, None, Some, slice_get}
+use Rattle.std.proofs.Common.{◌≡◌, ℕ, ◌+◌, List, [], ◌∷◌, ◌++◌, map, length, sym, ◌∙◌, ap, refl, subst, append-nil, append_assoc, length-append}
 use Rattle.hy_val.specs.Building.{whole_sort}
 use Rattle.hy_val.specs.declared.sort.Sort.{Sort}
 use Rattle.hy_val.specs.declared.expr.Var.{Var}

@@ -1,12 +1,11 @@
 -- What the sites of items are asked for, part by part.
-use Rattle.std.proofs.Common.{◌≡◌, ℕ, List, [], ◌∷◌, ◌++◌, sym, subst, append-nil, append_assoc}
+use Rattle.std.proofs.Common.{ℕ, List, [], ◌∷◌, ◌++◌, sym, subst, append-nil, append_assoc}
 use Rattle.hy_val.specs.declared.sort.Sort.{Sort}
 use Rattle.hy_val.specs.declared.expr.ExprNode.{ExprNode}
 use Rattle.hy_term.specs.declared.node.TermNode.{TermNode}
 use Rattle.passive_form.specs.declared.Item.{Item}
 use Rattle.passive_form.specs.declared.Item.TheVariants.{Let, Zero, Free, Need, Check, Site}
 use Rattle.vc_gen.specs.Emit.{SiteAsks, SitesAsk}
-use Rattle.vc_gen.specs.Fitting.{SortsAre}
 use Rattle.vc_gen.specs.Items.{made_by, made, sorts_of_all}
 use Rattle.vc_gen.specs.Standing.{Later}
 use Rattle.vc_gen.specs.declared.parts.SiteTerm.{SiteTerm}

@@ -1,5 +1,5 @@
 -- Among the items of a block at most one fails, and exactly one where the block does.
-use Rattle.std.proofs.Common.{◌≡◌, ℕ, zero, suc, ◌+◌, Bool, true, false, not, ◌&&◌, ◌||◌, List, [], ◌∷◌, ◌++◌, map, length, arith, sym, ◌∙◌, ap, refl, length-append}
+use Rattle.std.proofs.Common.{◌≡◌, ℕ, ◌+◌, Bool, true, false, not, ◌&&◌, List, [], ◌∷◌, ◌++◌, map, length, arith, ◌∙◌, ap, refl}
 use Rattle.std.specs.Prelude.{if◌then◌else◌, IsTrue}
 use Rattle.hy_val.specs.Exprs.{eval_by}
 use Rattle.hy_val.specs.Values.{is_on}

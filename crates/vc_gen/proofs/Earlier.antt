@@ -1,17 +1,16 @@
 -- What a call is asked for reads no variable from its own on; the globals behind it have their sorts.
-use Rattle.std.proofs.Common.{◌≡◌, ℕ, zero, suc, ◌+◌, ◌<◌, ◌≤◌, Bool, true, false, ◌&&◌, List, [], ◌∷◌, ◌++◌, map, length, take, drop, arith, sym, ◌∙◌, ap, refl, subst}
-use Rattle.std.specs.Prelude.{Option, None, Some, slice_get, nat_lt, IsTrue}
+use Rattle.std.proofs.Common.{◌≡◌, ℕ, zero, suc, ◌+◌, ◌<◌, ◌≤◌, Bool, true, false, List, [], ◌∷◌, ◌++◌, map, length, take, drop, arith, sym, ◌∙◌, ap, refl, subst}
+use Rattle.std.specs.Prelude.{Some, slice_get}
 use Rattle.std.proofs.lemmas.Bool.Decides.{nat_tests}
 use Rattle.std.proofs.lemmas.List.{take-append-drop, length-take-le}
 use Rattle.hy_val.specs.Values.{at}
 use Rattle.hy_val.specs.declared.sort.Sort.{Sort}
 use Rattle.hy_val.specs.declared.value.Value.{Value}
-use Rattle.hy_term.specs.Meaning.{node_value, values_onto, values, value}
+use Rattle.hy_term.specs.Meaning.{node_value, values_onto, value}
 use Rattle.hy_term.specs.Variables.{node_below, below}
 use Rattle.hy_term.specs.declared.node.TermNode.{TermNode}
 use Rattle.hy_term.specs.declared.node.TermNode.TheVariants.{Lit, ZeroMap, Variable, Unary, Binary, If, Select, Store}
 use Rattle.hy_term.specs.Laws.{ValuesStay}
-use Rattle.passive_form.specs.Limited.{Limited}
 use Rattle.passive_form.specs.Local.{picked, replaced}
 use Rattle.flat_prog.specs.Limits.{row}
 use Rattle.vc_gen.specs.Emit.{AllBefore, AreVariables, SiteThere}

@@ -1,8 +1,7 @@
 -- A procedure fails at one assert or call, and its asserts are those of its blocks.
-use Rattle.std.proofs.Common.{◌≡◌, ℕ, ◌+◌, false, ◌||◌, refl, List, [], ◌∷◌, ◌++◌, map, length, sym, ◌∙◌, ap, subst}
+use Rattle.std.proofs.Common.{◌≡◌, ℕ, ◌+◌, false, ◌||◌, refl, List, [], ◌∷◌, ◌++◌, map, length, sym, ◌∙◌, ap}
 use Rattle.std.specs.Prelude.{Some}
 use Rattle.hy_val.specs.Values.{is_on}
-use Rattle.hy_val.specs.declared.value.Value.{Value}
 use Rattle.hy_term.specs.Meaning.{value}
 use Rattle.hy_term.specs.declared.node.TermNode.{TermNode}
 use Rattle.flat_prog.specs.Program.{variables_of}
@@ -10,9 +9,7 @@ use Rattle.flat_prog.specs.declared.proc.FlatProc.{FlatProc}
 use Rattle.passive_form.specs.Laws.{AllThere}
 use Rattle.passive_form.specs.Limited.{Limited}
 use Rattle.passive_form.specs.Making.{passive_of}
-use Rattle.passive_form.specs.Versions.{from}
 use Rattle.vc_gen.specs.Breaking.{any_breaks}
-use Rattle.vc_gen.specs.Emit.{terms_of}
 use Rattle.vc_gen.specs.Fold.{Edge, seen}
 use Rattle.vc_gen.specs.Inputs.{givens_at}
 use Rattle.vc_gen.specs.Edges.{env_at}

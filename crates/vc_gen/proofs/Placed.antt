@@ -1,5 +1,5 @@
 -- The sites of items, of blocks and of an order, part by part.
-use Rattle.std.proofs.Common.{◌≡◌, ℕ, zero, suc, ◌+◌, List, [], ◌∷◌, ◌++◌, map, length, arith, sym, ◌∙◌, ap, refl, append-nil, append_assoc, length-append}
+use Rattle.std.proofs.Common.{◌≡◌, ℕ, ◌+◌, List, [], ◌∷◌, ◌++◌, map, length, arith, sym, ◌∙◌, ap, refl, append-nil, append_assoc, length-append}
 use Rattle.std.proofs.lemmas.List.{map-append, length-map}
 use Rattle.hy_val.specs.declared.sort.Sort.{Sort}
 use Rattle.flat_prog.specs.declared.proc.FlatKind.{FlatKind}
@@ -12,7 +12,7 @@ use Rattle.passive_form.specs.declared.Item.{Item}
 use Rattle.passive_form.specs.declared.Item.TheVariants.{Let, Zero, Free, Need, Check, Site}
 use Rattle.passive_form.specs.declared.PassiveBlock.{PassiveBlock}
 use Rattle.vc_gen.specs.declared.parts.SiteTerm.{SiteTerm}
-use Rattle.vc_gen.specs.Items.{bool_sort, chosen_by, chosen}
+use Rattle.vc_gen.specs.Items.{bool_sort, chosen}
 use Rattle.vc_gen.specs.Inputs.{items_at, sorts_of_block}
 use Rattle.vc_gen.specs.Fitting.{block_sorts, blocks_sorts}
 use Rattle.vc_gen.specs.Laid.{Laid, site_laid, calls_laid, sites_laid, blocks_laid}

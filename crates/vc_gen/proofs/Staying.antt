@@ -1,10 +1,9 @@
 -- A run from the actuals stays one, whatever the new variables are.
-use Rattle.std.proofs.Common.{◌≡◌, ℕ, ◌+◌, ◌<◌, List, [], ◌∷◌, ◌++◌, map, length, sym, ◌∙◌, ap}
+use Rattle.std.proofs.Common.{◌≡◌, ℕ, ◌<◌, List, [], map, sym, ◌∙◌, ap}
 use Rattle.std.specs.Prelude.{Some, IsTrue}
 use Rattle.hy_val.specs.Values.{at}
 use Rattle.hy_val.specs.declared.sort.Sort.{Sort}
 use Rattle.hy_val.specs.declared.value.Value.{Value}
-use Rattle.hy_term.specs.Meaning.{values}
 use Rattle.hy_term.specs.Variables.{below}
 use Rattle.hy_term.specs.declared.node.TermNode.{TermNode}
 use Rattle.flat_prog.specs.declared.proc.FlatProc.{FlatProc}

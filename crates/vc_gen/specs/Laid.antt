@@ -6,7 +6,7 @@ use Rattle.flat_prog.specs.Sites.{calls_at, numbers_from}
 use Rattle.flat_prog.specs.declared.proc.FlatProc.{FlatProc}
 use Rattle.passive_form.specs.Limited.{Limited}
 use Rattle.passive_form.specs.declared.Item.{Item}
-use Rattle.passive_form.specs.declared.Item.TheVariants.{Let, Zero, Free, Need, Check, Site}
+use Rattle.passive_form.specs.declared.Item.TheVariants.{Site}
 use Rattle.passive_form.specs.declared.PassiveBlock.{PassiveBlock}
 use Rattle.vc_gen.specs.Items.{bool_sort, chosen_by}
 use Rattle.vc_gen.specs.Inputs.{items_at, sorts_of_block, sorts_of_blocks}

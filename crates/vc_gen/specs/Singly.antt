@@ -5,7 +5,7 @@ use Rattle.hy_val.specs.declared.value.Value.{Value}
 use Rattle.hy_term.specs.Meaning.{value, fits}
 use Rattle.hy_term.specs.declared.node.TermNode.{TermNode}
 use Rattle.flat_prog.specs.declared.block.FlatCmd.{FlatCmd}
-use Rattle.flat_prog.specs.declared.block.FlatCmd.TheVariants.{Assign, Havoc, Assume, Assert, Call}
+use Rattle.flat_prog.specs.declared.block.FlatCmd.TheVariants.{Assert}
 use Rattle.flat_prog.specs.declared.proc.FlatProc.{FlatProc}
 use Rattle.passive_form.specs.Limited.{Limited}
 use Rattle.passive_form.specs.declared.Item.{Item}
