@@ -26,7 +26,7 @@ use Rattle.flat_prog.specs.declared.proc.FlatKind.TheVariants.{Source, Loop}
 use Rattle.flat_prog.specs.declared.proc.FlatProc.{FlatProc}
 use Rattle.passive_form.specs.Limited.{Limited, limited}
 use Rattle.passive_form.specs.Local.{sort_of}
-use Rattle.passive_form.specs.WellSorted.{truth_sort, var_sort, ReadsSorted, AllSorted, PairsSorted, NamesSorted, TargetsHave, SortsGood, CmdSorted, CmdsSorted, LeadsOn, KindSorted, ProcSorted}
+use Rattle.passive_form.specs.WellSorted.{truth_sort, var_sort, ReadsSorted, AllSorted, PairsSorted, NamesSorted, TargetsHave, ArgsHave, ins_at, SortsGood, CmdSorted, CmdsSorted, LeadsOn, KindSorted, ProcSorted}
 use Rattle.passive_form.specs.Laws.{ProcsAreSorted}
 
 -- ---- lists of sorts
@@ -117,15 +117,24 @@ module _ (flat : FlatProgram) (limits : List (List Bool)) (q : FlatProc) (global
     args_sorted sorts es (and-second (expr_fits (scope_of flat q) (Some s) e) (args_fit (scope_of flat q) sorts es) h),
   )
 
+  args_have : (sorts : List Sort) (args : List (List ExprNode)) → args_fit (scope_of flat q) sorts args ≡ true → ArgsHave args sorts
+  args_have [] [] h = tt
+  args_have [] (e ∷ es) h = cc
+  args_have (s ∷ sorts) [] h = cc
+  args_have (s ∷ sorts) (e ∷ es) h =
+      let r = expr_sorted (Some s) e (and-first (expr_fits (scope_of flat q) (Some s) e) (args_fit (scope_of flat q) sorts es) h) in
+      (r.2 ∙ sym r.1, args_have sorts es (and-second (expr_fits (scope_of flat q) (Some s) e) (args_fit (scope_of flat q) sorts es) h))
+
   -- ---- commands
 
   call_sorted : (callees_good : (p : ℕ) (r : FlatProc) → slice_get flat.procs p ≡ Some r → SortsGood r.outs) (p : ℕ) (args : List (List ExprNode)) (outs : List Var) (o : Option FlatProc) → slice_get flat.procs p ≡ o →
-      call_fits (scope_of flat q) o args outs ≡ true → AllSorted (limited flat limits) q args × TargetsHave (limited flat limits) q outs (outs_at o) × SortsGood (outs_at o)
+      call_fits (scope_of flat q) o args outs ≡ true → AllSorted (limited flat limits) q args × TargetsHave (limited flat limits) q outs (outs_at o) × SortsGood (outs_at o) × ArgsHave args (ins_at o)
   call_sorted good p args outs None at h = cc
   call_sorted good p args outs (Some r) at h = (
     args_sorted r.ins args (and-first (args_fit (scope_of flat q) r.ins args) (targets_fit (scope_of flat q) r.outs outs) h),
     targets_have r.outs outs (and-second (args_fit (scope_of flat q) r.ins args) (targets_fit (scope_of flat q) r.outs outs) h),
     good p r at,
+    args_have r.ins args (and-first (args_fit (scope_of flat q) r.ins args) (targets_fit (scope_of flat q) r.outs outs) h),
   )
 
   cmd_sorted : (callees_good : (p : ℕ) (r : FlatProc) → slice_get flat.procs p ≡ Some r → SortsGood r.outs) (c : FlatCmd) → cmd_fits flat.procs (scope_of flat q) c ≡ true → CmdSorted (limited flat limits) q c

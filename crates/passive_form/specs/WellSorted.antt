@@ -49,6 +49,21 @@ abbrev pub NamesSorted : Limited → FlatProc → List Var → Type 0
 NamesSorted flat q [] = Unit {0}
 NamesSorted flat q (x ∷ xs) = ((s : Sort) × (sort_of flat q x ≡ Some s) × IsTrue (is_sort s)) × NamesSorted flat q xs
 
+-- the expressions have these sorts, one for one
+abbrev pub ArgsHave : List (List ExprNode) → List Sort → Type 0
+ArgsHave [] [] = Unit {0}
+ArgsHave [] (s ∷ ss) = ⊥
+ArgsHave (e ∷ es) [] = ⊥
+ArgsHave (e ∷ es) (s ∷ ss) = (whole_sort e ≡ Some s) × ArgsHave es ss
+
+abbrev pub ins_at : Option FlatProc → List Sort
+ins_at None = []
+ins_at (Some q) = q.ins
+
+-- the sorts of what a procedure is called with
+abbrev pub callee_ins : Limited → ℕ → List Sort
+callee_ins flat p = ins_at (slice_get flat.procs p)
+
 -- the variables have these sorts, one for one
 abbrev pub TargetsHave : Limited → FlatProc → List Var → List Sort → Type 0
 TargetsHave flat q [] [] = Unit {0}
@@ -65,7 +80,7 @@ CmdSorted flat q (Assign pairs) = PairsSorted flat q pairs
 CmdSorted flat q (Havoc xs) = NamesSorted flat q xs
 CmdSorted flat q (Assume e) = (whole_sort e ≡ Some truth_sort) × ReadsSorted flat q e
 CmdSorted flat q (Assert p n e) = (whole_sort e ≡ Some truth_sort) × ReadsSorted flat q e
-CmdSorted flat q (Call p args outs) = AllSorted flat q args × TargetsHave flat q outs (outs_at (slice_get flat.procs p)) × SortsGood (outs_at (slice_get flat.procs p))
+CmdSorted flat q (Call p args outs) = AllSorted flat q args × TargetsHave flat q outs (outs_at (slice_get flat.procs p)) × SortsGood (outs_at (slice_get flat.procs p)) × ArgsHave args (callee_ins flat p)
 
 abbrev pub CmdsSorted : Limited → FlatProc → List FlatCmd → Type 0
 CmdsSorted flat q [] = Unit {0}

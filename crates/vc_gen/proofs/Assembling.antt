@@ -38,10 +38,13 @@ use Rattle.vc_gen.specs.Standing.{Later, Plain, AreOf, variables_in}
 use Rattle.vc_gen.specs.Items.{bool_sort, SiteMeans, made, chosen}
 use Rattle.vc_gen.specs.Emit.{Stands, ItemsReady, Step, terms_of, site_value, SitesThere, FailsThere}
 use Rattle.vc_gen.specs.declared.parts.SiteTerm.{SiteTerm}
-use Rattle.vc_gen.specs.Signed.{SitesSigned}
+use Rattle.vc_gen.specs.Signed.{SitesSigned, SitesAsked}
+use Rattle.vc_gen.specs.Laid.{site_laid, sites_laid}
+use Rattle.vc_gen.proofs.Asking.{asked_later}
+use Rattle.vc_gen.proofs.Placed.{none_laid, start_laid, order_laid}
 use Rattle.vc_gen.proofs.Signing.{signed_later, signed_both, start_signed}
 use Rattle.vc_gen.specs.Inputs.{sorts_of_block, sorts_of_blocks, givens_at}
-use Rattle.vc_gen.specs.Instance.{all_at, edge_at, edges_at, start_sorts, room, first_edge, Built, PartsThere}
+use Rattle.vc_gen.specs.Instance.{all_at, edge_at, edges_at, start_sorts, room, first_edge, Built, PartsThere, IsRoom}
 use Rattle.vc_gen.specs.Joins.{WaitOf, WaitsOf}
 use Rattle.vc_gen.specs.Edges.{env_at}
 use Rattle.vc_gen.specs.Entering.{met, met_env, EnterReady, Entered}
@@ -280,8 +283,27 @@ built_of flat q order old n2 n3 n4 new actuals k lit1 lit0 e g edges left end th
           (sites_there_append new s.sites h.went.sites (sites_stay n3 new s.sites l35 s.sites_there) (sites_stay n4 new h.went.sites h.later h.went.sites_there));
       signed = subst (λ (ss : List SiteTerm). SitesSigned flat new ss) (sym (h.went.sites_are ∙ ap (λ r. r ++ h.went.sites) s.sites_behind))
           (signed_both flat new s.sites h.went.sites (signed_later flat n3 new s.sites l35 (start_signed flat q q.kind n3 s.sites s.sites_of)) (signed_later flat n4 new h.went.sites h.later says.signed));
+      laid =
+          let none : s.sites ≡ [] = none_laid s.sites (s.laid ∙ start_laid flat q q.kind 0 0 k) in
+          ap (map site_laid) (h.went.sites_are ∙ ap (λ r. r ++ h.went.sites) (s.sites_behind ∙ none)) ∙ h.went.laid ∙ order_laid flat q order e.next ∙ ap (sites_laid flat q order) next_is;
+      asked = λ sorted.
+          let none : s.sites ≡ [] = none_laid s.sites (s.laid ∙ start_laid flat q q.kind 0 0 k) in
+          subst (λ (ss : List SiteTerm). SitesAsked flat new ss) (sym (h.went.sites_are ∙ ap (λ r. r ++ h.went.sites) (s.sites_behind ∙ none))) (asked_later flat n4 new h.went.sites h.later (says.asked sorted));
       ended_is = λ a f. h.entered.live_is a (all_at a new cs) f ∙ met_is a;
       outs_are = λ a f on.
           outs_are a new end.locals q.ins q.outs q.locals w.locals ∙ ap (λ (v : Env). outs_of q v.locals) (end_is a f on);
       globals_are = λ a f on. ap (λ (x : Env). x.globals) (end_is a f on);
+    }
+
+-- the variables of the start, and those of the blocks
+pub room_of : (flat : Limited) (q : FlatProc) (order : List ℕ) (old n2 n3 n4 new : List TermNode) (actuals : Actuals) (k lit1 lit0 : ℕ) (e g : Draft) (edges : List EdgeTerm) (left : List Wait) (end : Wait) → AllThere flat q order →
+    Parts old n2 n3 n4 new (passive_of flat q order) actuals k lit1 lit0 e g edges left end → IsRoom flat q order k old new g.next
+room_of flat q order old n2 n3 n4 new actuals k lit1 lit0 e g edges left end there h =
+    let n_s = length (start_sorts q q.kind) in
+    let n_b = length (sorts_of_blocks flat q order) in
+    let first : e.next ≡ k + n_s = h.step.next ∙ ap (λ ss. k + length ss) (start_chosen flat q q.kind) in
+    let rest : g.next ≡ e.next + n_b = h.went.next ∙ ap (λ ss. e.next + length ss) (order_sorts flat q order) in
+    record {
+      next_is = omega (arith, first, rest, length-append (start_sorts q q.kind) (sorts_of_blocks flat q order));
+      fit = (built_of flat q order old n2 n3 n4 new actuals k lit1 lit0 e g edges left end there h).fit;
     }

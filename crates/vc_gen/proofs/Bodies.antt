@@ -23,7 +23,10 @@ use Rattle.vc_gen.specs.Breaking.{breaks, breaks_seen}
 use Rattle.vc_gen.specs.Passages.{Passage, passages, passages_seen, targets_on, places_from}
 use Rattle.vc_gen.proofs.Marks.{out_targets}
 use Rattle.vc_gen.specs.Alike.{Alike}
-use Rattle.vc_gen.specs.Emit.{SitesOf, Stands, ItemsReady, Step, terms_of, site_value}
+use Rattle.vc_gen.specs.Emit.{SitesOf, SitesAsk, Stands, ItemsReady, Step, terms_of, site_value}
+use Rattle.vc_gen.proofs.Asking.{block_asked, asked_later}
+use Rattle.vc_gen.specs.Singly.{one_if}
+use Rattle.vc_gen.proofs.Counting.{counted_later, step_counted}
 use Rattle.vc_gen.proofs.Signing.{signed_later, cmds_signed}
 use Rattle.passive_form.specs.declared.Item.{Item}
 use Rattle.passive_form.specs.declared.PassiveBlock.{PassiveBlock}
@@ -69,10 +72,11 @@ module _ (flat : Limited) (q : FlatProc) (cs : List ℕ) (n : ℕ) (b : FlatBloc
     (at_n : slice_get q.blocks n ≡ Some b) (there : cmds_there flat q b.cmds ≡ true)
     (versions : d.versions ≡ globals ++ locals) (c_are : AreOf before cs csorts) (g_are : AreOf before globals flat.globals) (l_are : AreOf before locals (variables_of q))
     (s : Step cs n before d (items_all flat q (entry_cur flat q) 0 (entry_count flat q) b.cmds) new e) where
-  pub block_breaks : (a : ℕ → Value) (dead : Env) (es : List Edge) → IsTrue (fits a new) → is_on (value a before d.cond) ≡ reached n es →
+  -- its items fail where it is reached and fails
+  pub block_broken : (a : ℕ → Value) (dead : Env) (es : List Edge) → IsTrue (fits a new) → is_on (value a before d.cond) ≡ reached n es →
       (reached n es ≡ true → record { consts = all_at a before cs; globals = all_at a before globals; locals = all_at a before locals } ≡ entered n dead es) →
-      is_on (value a new e.fails) ≡ (is_on (value a before d.fails) || breaks_seen flat q (seen_at dead (given_at flat q a d.next n) es))
-  block_breaks a dead es f on env =
+      broken (all_at a new cs) (vals_at a new e.versions) (is_on (value a before d.cond)) (items_all flat q (entry_cur flat q) 0 (entry_count flat q) b.cmds) ≡ breaks_seen flat q (seen_at dead (given_at flat q a d.next n) es)
+  block_broken a dead es f on env =
       let items = items_all flat q (entry_cur flat q) 0 (entry_count flat q) b.cmds in
       let vals = vals_at a new e.versions in
       let consts = all_at a new cs in
@@ -106,10 +110,17 @@ module _ (flat : Limited) (q : FlatProc) (cs : List ℕ) (n : ℕ) (b : FlatBloc
       ∙ ap (λ v. breaks flat q b.cmds (alone (entered n dead es) v (taken_results vals items ++ []) [])) v_is
       ∙ ap (λ v. breaks flat q b.cmds (alone (entered n dead es) g.values v [])) r_is
       ∙ ap (λ (o : Option FlatBlock). breaks flat q (cmds_of o) (alone (entered n dead es) g.values g.results [])) (sym at_n) in
-      says.fails
-      ∙ fails_or consts vals (is_on (value a before d.cond)) (is_on (value a before d.fails)) items
-      ∙ ap (λ y. is_on (value a before d.fails) || broken consts vals y items) on
-      ∙ ap (λ y. is_on (value a before d.fails) || y) (off_or_on (reached n es) (λ y. broken consts vals y items) x (off_broken consts vals items) when_on)
+      ap (λ y. broken consts vals y items) on ∙ off_or_on (reached n es) (λ y. broken consts vals y items) x (off_broken consts vals items) when_on
+
+  pub block_breaks : (a : ℕ → Value) (dead : Env) (es : List Edge) → IsTrue (fits a new) → is_on (value a before d.cond) ≡ reached n es →
+      (reached n es ≡ true → record { consts = all_at a before cs; globals = all_at a before globals; locals = all_at a before locals } ≡ entered n dead es) →
+      is_on (value a new e.fails) ≡ (is_on (value a before d.fails) || breaks_seen flat q (seen_at dead (given_at flat q a d.next n) es))
+  block_breaks a dead es f on env =
+      let items = items_all flat q (entry_cur flat q) 0 (entry_count flat q) b.cmds in
+      let vals = vals_at a new e.versions in
+      let consts = all_at a new cs in
+      let says = s.says a consts vals f (meant_at a new cs e.versions) in
+      says.fails ∙ fails_or consts vals (is_on (value a before d.cond)) (is_on (value a before d.fails)) items ∙ ap (λ y. is_on (value a before d.fails) || y) (block_broken a dead es f on env)
 
 module _ (flat : Limited) (q : FlatProc) (cs : List ℕ) (n : ℕ) (b : FlatBlock) (before new : List TermNode) (d e : Draft) (globals locals : List ℕ) (csorts : List Sort)
     (at_n : slice_get q.blocks n ≡ Some b) (there : cmds_there flat q b.cmds ≡ true)
@@ -250,7 +261,7 @@ module _ (cs : List ℕ) (spare : Wait) (old mid low new : List TermNode) (d e g
       }
 
   block_says : (flat : Limited) (q : FlatProc) (m : ℕ) (b : FlatBlock) → slice_get q.blocks m ≡ Some b → cmds_there flat q b.cmds ≡ true → block ≡ passive_block flat q m b →
-      Stage flat.consts flat.globals (variables_of q) old cs spare d waits → BlockSays flat q m cs old d waits new g left (edge_terms block.number 0 out) s.sites
+      Stage flat.consts flat.globals (variables_of q) old cs spare d waits → BlockSays flat q m cs old d waits new g left (edge_terms block.number 0 out) s.sites s.asserts
   block_says flat q m b at there is h =
       let items = items_all flat q (entry_cur flat q) 0 (entry_count flat q) b.cmds in
       let leave = cur_end flat (entry_cur flat q) (entry_count flat q) b.cmds in
@@ -307,6 +318,16 @@ module _ (cs : List ℕ) (spare : Wait) (old mid low new : List TermNode) (d e g
         calls = calls_same;
         places = λ a dead f. placed_same a new m 0 s.sites (passages_seen flat q (seen_at dead (given_at flat q a d.next m) (es a))) (s.numbered ∙ ap (λ x. places_from x 0 (length s.sites)) number_is) (calls_same a dead f);
         signed = signed_later flat low new s.sites o.later (cmds_signed flat q (entry_cur flat q) 0 (entry_count flat q) b.cmds low s.sites (subst (λ (x : PassiveBlock). SitesOf low x.items s.sites) is s.sites_of));
+        single = λ a dead f.
+            let f1 = fits_before a low new o.later f in
+            counted_later low new a s.asserts s.sites o.later s.asserts_there s.sites_there ∙ step_counted cs block.number mid low (at_entry d entry) e block.items s a f1
+            ∙ ap (λ (x : PassiveBlock). one_if (broken (all_at a low cs) (vals_at a low e.versions) (is_on (value a mid entry.live)) x.items)) is
+            ∙ ap one_if (block_broken flat q cs m b mid low (at_entry d entry) e entry.globals entry.locals flat.consts at there refl c_mid w.globals w.locals st a dead (es a) f1 (on_is a f) (env_is a dead f));
+        asked = λ sorted.
+            asked_later flat low new s.sites o.later
+            (block_asked flat q b.cmds low s.sites sorted.globals (sorted.blocks m b at).0
+            (subst (λ (x : PassiveBlock). SitesAsk low (flat.globals ++ variables_of q) x.items s.sites) is
+            (s.asked flat.consts (flat.globals ++ variables_of q) (entry_stands flat.consts flat.globals (variables_of q) old mid cs spare d waits (Some block.number) entry h l1 p1 n))));
         fails = λ a dead f.
             let f1 = fits_before a low new o.later f in
             bit_fails a
@@ -333,9 +354,11 @@ module _ (cs : List ℕ) (spare : Wait) (old mid low new : List TermNode) (d e g
         sites = s.sites;
         sites_are = ap (λ (x : Draft). x.sites) o.frame ∙ s.sites_behind;
         sites_there = sites_stay low new s.sites o.later s.sites_there;
+        laid = s.laid;
         asserts = s.asserts;
         asserts_are = ap (λ (x : Draft). x.asserts) o.frame ∙ s.asserts_behind;
         asserts_there = fails_stay low new s.asserts o.later s.asserts_there;
+        checked = s.checked;
         next = omega (arith, o.next_is, s.next, total);
         numbers = numbers_then (variables_in old) (variables_in low) (variables_in new) d.next e.next c k (length (block_sorts block)) (s.variables ∙ ap (λ r. r ++ numbers_from d.next c) p1.numbers) s.next o.numbers total;
         fit = λ a f h.

@@ -26,7 +26,8 @@ use Rattle.vc_gen.specs.declared.parts.Draft.{Draft}
 use Rattle.vc_gen.specs.declared.parts.SiteTerm.{SiteTerm}
 use Rattle.vc_gen.specs.Standing.{Later, Plain, AreOf, variables_in}
 use Rattle.vc_gen.specs.Translate.{ReadsFit, Says as ExprSays}
-use Rattle.vc_gen.specs.Items.{bool_sort, ReadsIn, AllRead, AllThere, AreSorts, SiteMeans, chosen, made}
+use Rattle.vc_gen.specs.Items.{bool_sort, ReadsIn, AllRead, AllThere, AreSorts, SiteMeans, sorts_of_all, chosen, made}
+use Rattle.vc_gen.specs.Laid.{Laid}
 use Rattle.vc_gen.specs.Emit.{AllBefore, AllBehind, AreVariables, row_of, Stands, ItemReady, ArgsReady, ArgsSay, Meant, Fresh, IsNot, Passed, terms_of, site_value, Says, Step}
 use Rattle.vc_gen.proofs.Looking.{take_at, take_all}
 use Rattle.vc_gen.proofs.Growth.{later_same, later_then, plain_same, plain_then, value_later, sort_later, sort_within, are_later, are_append, are_count, are_at, map_later}
@@ -34,13 +35,14 @@ use Rattle.vc_gen.proofs.Joining.{variables_stay, take_grown, meant_back, and_fi
 use Rattle.vc_gen.proofs.Passes.{bit_later}
 use Rattle.vc_gen.proofs.Steps.{reads_fit, expr_value, sort_is}
 use Rattle.vc_gen.proofs.Zeros.{cancel}
+use Rattle.vc_gen.proofs.Outward.{are_terms}
 use Rattle.vc_gen.proofs.Pushing.{fresh_then, fresh_numbers}
 
 -- ---- arguments
 
 pub args_none : (old : List TermNode) (cs versions ts : List ℕ) → IsSome (sorts old) → ts ≡ [] → ArgsSay old cs versions [] old ts
 args_none old cs versions ts h e =
-    subst (λ (us : List ℕ). ArgsSay old cs versions [] old us) (sym e) (record { later = later_same old h; plain = plain_same old; sorts = []; are = tt; values_are = λ a consts vals m. refl })
+    subst (λ (us : List ℕ). ArgsSay old cs versions [] old us) (sym e) (record { later = later_same old h; plain = plain_same old; sorts = []; are = tt; sorts_are = refl; values_are = λ a consts vals m. refl })
 
 read_of_all : (csorts vsorts : List Sort) (args : List (List ExprNode)) (i : ℕ) (e : List ExprNode) → AllRead csorts vsorts args → i < length args → ReadsIn csorts vsorts (slice_index_or args i e)
 read_of_all csorts vsorts [] i e h l = absurd (omega (arith, l))
@@ -56,6 +58,10 @@ all_append : (look : (n : ℕ) → Value) (consts : List Value) (xs : List (List
 all_append look consts [] e = refl
 all_append look consts (x ∷ xs) e = ap (λ r. eval_by (look_at consts look) x ∷ r) (all_append look consts xs e)
 
+sorts_push : (args : List (List ExprNode)) (e : List ExprNode) → sorts_of_all (args ++ e ∷ []) ≡ sorts_of_all args ++ sort_or (whole_sort e) ∷ []
+sorts_push [] e = refl
+sorts_push (x ∷ args) e = ap (λ (r : List Sort). sort_or (whole_sort x) ∷ r) (sorts_push args e)
+
 pub args_next : (old mid new : List TermNode) (cs versions ts us : List ℕ) (args : List (List ExprNode)) (i t : ℕ) (e : List ExprNode) → ArgsReady old cs versions args → i < length args → e ≡ slice_index_or args i e →
     ArgsSay old cs versions (take i args) mid ts → Later mid new → Plain mid new → ExprSays mid new cs versions e t → us ≡ ts ++ t ∷ [] → ArgsSay old cs versions (take (i + 1) args) new us
 args_next old mid new cs versions ts us args i t e r l is h later plain s u =
@@ -67,6 +73,7 @@ args_next old mid new cs versions ts us args i t e r l is h later plain s u =
       plain = plain_then old mid new h.plain plain;
       sorts = h.sorts ++ sort_or (whole_sort e) ∷ [];
       are = are_append new ts (t ∷ []) h.sorts (sort_or (whole_sort e) ∷ []) (are_later mid new ts h.sorts later h.are) (s.sort ∙ sort_is (whole_sort e) s.there, tt);
+      sorts_are = ap (λ (ss : List Sort). ss ++ sort_or (whole_sort e) ∷ []) h.sorts_are ∙ sym (sorts_push (take i args) e);
       values_are = λ a consts vals m.
           let there : Meant a mid cs versions consts vals = record {
             consts_are = map_later old mid a cs r.csorts h.later r.consts ∙ m.consts_are;
@@ -287,12 +294,22 @@ module _ (cs : List ℕ) (block : ℕ) (old : List TermNode) (d : Draft) (p f : 
         );
         sites_of = (record { proc_is = refl; outs_are = are_later m2 new ots outs l24 call.outs_are; changed_are = are_later m2 new gts after l24 call.after_are; after_is = refl }, tt);
         sites_behind = is ∙ ap (λ x. x ++ site ∷ []) (g_sites ∙ e_sites);
+        asked = λ csorts vsorts st2. (
+          record {
+            proc_is = refl;
+            args_are = subst (λ (ss : List Sort). AreOf new ats ss) say.sorts_are (are_later m1 new ats say.sorts l14 say.are);
+            before_are = λ ss k. are_later old new (terms_of d.versions before) ss later (are_terms old d.versions vsorts before ss st2.versions k);
+          },
+          tt,
+        );
         numbered = ap {B = List (ℕ × ℕ)} (λ (i : ℕ). (block, i) ∷ []) same_calls;
+        laid = ap {B = List Laid} (λ (i : ℕ). record { block = block; call = i; proc = p; first = d.next } ∷ []) same_calls;
         calls = omega (arith, more_calls, same_calls);
         variables = p4.numbers ∙ p3.numbers ∙ fresh_numbers m1 m2 d e own fresh ∙ ap (λ r. r ++ numbers_from d.next (length own)) say.plain.numbers ∙ ap (λ i. variables_in old ++ numbers_from d.next i) count;
         asserts = [];
         asserts_there = tt;
         asserts_behind = g_asserts ∙ e_asserts ∙ sym (append-nil d.asserts);
+        checked = refl;
         says = λ a consts vals fit m.
             let f3 = fits_before a m3 new l4 fit in
             let f2 = fits_before a m2 m3 l3 f3 in

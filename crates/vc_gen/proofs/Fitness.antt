@@ -157,7 +157,7 @@ all_read : (flat : Limited) (q : FlatProc) (vsorts : List Sort) (cur : Cur) (es 
 all_read flat q vsorts cur [] h r = tt
 all_read flat q vsorts cur (e ∷ es) h (r, rs) = (reads_in flat q vsorts cur e h r, all_read flat q vsorts cur es h rs)
 
-whole_same : (cur : Cur) (e : List ExprNode) → whole_sort (over_versions cur e) ≡ whole_sort e
+pub whole_same : (cur : Cur) (e : List ExprNode) → whole_sort (over_versions cur e) ≡ whole_sort e
 whole_same cur e =
     let k = renaming (version_of cur) (λ x. default None) e in
     ap (λ o. option_and_then (λ (ss : List Sort). slice_get ss (length (map (renamed (version_of cur)) e) - 1)) o) k.sorts
@@ -227,12 +227,12 @@ frees_fit flat q vsorts k (x ∷ xs) n ((s, e, g), ps) =
     ((n, subst (λ (o : Option Sort). IsTrue (is_sort (sort_or o))) (sym e) g), frees_fit flat q (vsorts ++ t ∷ []) (k + 1) xs (pushed_count vsorts t k n) ps)
 
 -- what holds behind the items of a command
-record Fine (flat : Limited) (q : FlatProc) (vsorts : List Sort) (items : List Item) (cur : Cur) (next : ℕ) : Type 0 where
+pub record Fine (flat : Limited) (q : FlatProc) (vsorts : List Sort) (items : List Item) (cur : Cur) (next : ℕ) : Type 0 where
   pub fit : ItemsFit flat.consts vsorts items
   pub cur_fits : CurFits flat q (vsorts ++ made items) cur
   pub count : next ≡ length (vsorts ++ made items)
 
-cmd_fine : (flat : Limited) (q : FlatProc) (vsorts : List Sort) (cur : Cur) (at k : ℕ) (c : FlatCmd) → SortsGood flat.globals → CurFits flat q vsorts cur → k ≡ length vsorts → CmdSorted flat q c →
+pub cmd_fine : (flat : Limited) (q : FlatProc) (vsorts : List Sort) (cur : Cur) (at k : ℕ) (c : FlatCmd) → SortsGood flat.globals → CurFits flat q vsorts cur → k ≡ length vsorts → CmdSorted flat q c →
     Fine flat q vsorts (items_of flat q cur at k c) (cur_after flat cur k c) (next_after flat k c)
 cmd_fine flat q vsorts cur at k (Assign pairs) g h n p =
     let items = lets cur k pairs in
@@ -260,7 +260,7 @@ cmd_fine flat q vsorts cur at k (Assert p m e) g h n (w, r) = record {
   cur_fits = cur_more flat q vsorts [] cur h;
   count = omega (arith, n, length-append vsorts []);
 }
-cmd_fine flat q vsorts cur at k (Call p args outs) g h n (a, t, o) =
+cmd_fine flat q vsorts cur at k (Call p args outs) g h n (a, t, o, i) =
     let own = callee_outs flat p in
     let gs = changed_sorts flat p in
     let all = bool_sort ∷ (own ++ gs) in
@@ -296,7 +296,7 @@ cmds_fine flat q vsorts cur at k (c ∷ cs) g h n (p, ps) =
 
 -- ---- blocks
 
-entry_fits : (flat : Limited) (q : FlatProc) → CurFits flat q (flat.globals ++ variables_of q) (entry_cur flat q)
+pub entry_fits : (flat : Limited) (q : FlatProc) → CurFits flat q (flat.globals ++ variables_of q) (entry_cur flat q)
 entry_fits flat q = record {
   globals = sorts_from (flat.globals ++ variables_of q) [] flat.globals (variables_of q) 0 refl refl;
   locals = sorts_from (flat.globals ++ variables_of q) flat.globals (variables_of q) [] (length flat.globals) (ap (λ r. flat.globals ++ r) (sym (append-nil (variables_of q)))) refl;

@@ -1,5 +1,8 @@
 -- What is said of two lists of items is said of both together.
 use Rattle.vc_gen.proofs.Numbers.{numbers_then}
+use Rattle.vc_gen.proofs.Placed.{laid_then}
+use Rattle.vc_gen.proofs.Checked.{checks_then}
+use Rattle.vc_gen.proofs.Asks.{asks_later, asks_both}
 use Rattle.vc_gen.specs.Passages.{places_from}
 use Rattle.std.proofs.Common.{◌≡◌, ℕ, zero, suc, ◌+◌, ◌<◌, ◌≤◌, Bool, true, false, not, ◌&&◌, ◌||◌, List, [], ◌∷◌, ◌++◌, map, length, arith, sym, ◌∙◌, ap, refl, subst, append-nil, append_assoc, length-append}
 use Rattle.std.specs.Prelude.{Option, None, Some, slice_get, take, IsTrue, IsSome}
@@ -280,12 +283,15 @@ step_nil cs block old d csorts vsorts h = record {
   sites_there = tt;
   sites_of = tt;
   sites_behind = sym (append-nil d.sites);
+  asked = λ csorts vsorts _. tt;
   numbered = refl;
+  laid = refl;
   calls = omega arith;
   variables = sym (append-nil (variables_in old));
   asserts = [];
   asserts_there = tt;
   asserts_behind = sym (append-nil d.asserts);
+  checked = refl;
   says = λ a consts vals f m. record { defined = tt; on = refl; fails = refl; inputs_are = refl; sites_are = refl; asserts_are = refl };
   fit = λ a f k. f;
 }
@@ -310,13 +316,17 @@ step_then cs block old mid new d m e csorts vsorts xs ys h s t =
       sites_there = sites_there_append new s.sites t.sites (sites_stay mid new s.sites t.later s.sites_there) t.sites_there;
       sites_of = of_both new xs ys s.sites t.sites (of_later mid new xs s.sites t.later s.sites_of) t.sites_of;
       sites_behind = t.sites_behind ∙ ap (λ r. r ++ t.sites) s.sites_behind ∙ append_assoc d.sites s.sites t.sites;
+      asked = λ cs2 vs2 h2.
+          asks_both new vs2 xs ys s.sites t.sites (asks_later mid new vs2 xs s.sites t.later (s.asked cs2 vs2 h2)) (t.asked cs2 (vs2 ++ made xs) (stands_then cs block old mid d m cs2 vs2 xs h2 s));
       numbered = map-append site_place s.sites t.sites ∙ ap (λ r. r ++ map site_place t.sites) s.numbered
           ∙ ap (λ r. places_from block d.calls (length s.sites) ++ r) (t.numbered ∙ ap (λ i. places_from block i (length t.sites)) s.calls)
           ∙ sym (ap (places_from block d.calls) (length-append s.sites t.sites) ∙ places_append block d.calls (length s.sites) (length t.sites));
+      laid = laid_then block s.sites t.sites xs ys d.calls d.next m.calls m.next s.laid s.calls s.next t.laid;
       calls = omega (arith, t.calls, s.calls, length-append s.sites t.sites);
       variables = numbers_then (variables_in old) (variables_in mid) (variables_in new) d.next m.next (length (chosen xs)) (length (chosen ys)) (length (chosen (xs ++ ys))) s.variables s.next t.variables n;
       asserts = s.asserts ++ t.asserts;
       asserts_there = fails_there_append new s.asserts t.asserts (fails_stay mid new s.asserts t.later s.asserts_there) t.asserts_there;
+      checked = checks_then block s.asserts t.asserts xs ys s.checked t.checked;
       asserts_behind = t.asserts_behind ∙ ap (λ r. r ++ t.asserts) s.asserts_behind ∙ append_assoc d.asserts s.asserts t.asserts;
       says = λ a consts vals f w.
           let two = t.says a consts vals f w in

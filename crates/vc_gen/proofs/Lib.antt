@@ -22,6 +22,16 @@ pub mod Looking
 pub mod Replacing
 pub mod Growth
 pub mod Numbers
+pub mod Placed
+pub mod Earlier
+pub mod Staying
+pub mod Checked
+pub mod Counting
+pub mod Singling
+pub mod Failed
+pub mod Asks
+pub mod Differing
+pub mod OneEach
 pub mod Nodes
 pub mod Walking
 pub mod Joining
@@ -53,6 +63,7 @@ pub mod Sortable
 pub mod Shards
 pub mod Faults
 pub mod Fitness
+pub mod Asking
 pub mod Rows
 pub mod Planning
 pub mod Stopping

@@ -127,12 +127,15 @@ module _ (cs : List ℕ) (block : ℕ) (old : List TermNode) (d : Draft) where
         sites_there = tt;
         sites_of = tt;
         sites_behind = sym (append-nil d.sites);
+        asked = λ csorts vsorts _. tt;
         numbered = refl;
+        laid = refl;
         calls = omega arith;
         variables = plain.numbers ∙ sym (append-nil (variables_in old));
         asserts = [];
         asserts_there = tt;
         asserts_behind = sym (append-nil d.asserts);
+        checked = refl;
         says = λ a consts vals f m.
             let back = meant_back a old new cs d.versions (t ∷ []) vs r.csorts r.vsorts consts vals later st.consts st.versions is m in
             record {
@@ -163,12 +166,15 @@ module _ (cs : List ℕ) (block : ℕ) (old : List TermNode) (d : Draft) where
         sites_there = tt;
         sites_of = tt;
         sites_behind = sym (append-nil d.sites);
+        asked = λ csorts vsorts _. tt;
         numbered = refl;
+        laid = refl;
         calls = omega arith;
         variables = plain.numbers ∙ sym (append-nil (variables_in old));
         asserts = [];
         asserts_there = tt;
         asserts_behind = sym (append-nil d.asserts);
+        checked = refl;
         says = λ a consts vals f m. record {
           defined = (m.each v t (ap (λ xs. slice_get xs v) is ∙ pushed_at d.versions t v (length r.vsorts) r.fit.0 (are_count old d.versions r.vsorts st.versions)) ∙ zero_is a, tt);
           on = bit_later old new a d.cond later st.cond;
@@ -199,12 +205,15 @@ module _ (cs : List ℕ) (block : ℕ) (old : List TermNode) (d : Draft) where
         sites_there = tt;
         sites_of = tt;
         sites_behind = sym (append-nil d.sites);
+        asked = λ csorts vsorts _. tt;
         numbered = refl;
+        laid = refl;
         calls = omega arith;
         variables = p2.numbers ∙ p1.numbers ∙ sym (append-nil (variables_in old));
         asserts = [];
         asserts_there = tt;
         asserts_behind = sym (append-nil d.asserts);
+        checked = refl;
         says = λ a consts vals f m.
             let back = meant_back a old new cs d.versions [] d.versions r.csorts r.vsorts consts vals later st.consts st.versions (sym (append-nil d.versions)) m in
             record {
@@ -246,12 +255,15 @@ module _ (cs : List ℕ) (block : ℕ) (old : List TermNode) (d : Draft) where
         sites_there = tt;
         sites_of = tt;
         sites_behind = same_sites;
+        asked = λ csorts vsorts _. tt;
         numbered = refl;
+        laid = refl;
         calls = omega (arith, ap (λ (x : Draft). x.calls) w.draft_is);
         variables = p3.numbers ∙ p2.numbers ∙ p1.numbers ∙ sym (append-nil (variables_in old));
         asserts = record { block = block; position = p; node = t } ∷ [];
         asserts_there = (w.sort, tt);
         asserts_behind = is ∙ ap (λ xs. xs ++ record { block = block; position = p; node = t } ∷ []) same_asserts;
+        checked = refl;
         says = λ a consts vals f m.
             let f2 = fits_before a m2 new l3 f in
             let f1 = fits_before a m1 m2 l2 f2 in

@@ -45,6 +45,13 @@ use Rattle.vc_gen.proofs.Growth.{later_same, later_then}
 use Rattle.vc_gen.proofs.Joining.{sites_later, sites_stay, sites_there_append, fits_before, reads_append, length_reads, sorts_left, sorts_right, fails_stay, fails_there_append}
 use Rattle.vc_gen.proofs.Exacting.{marks_later, marks_stay, marks_there, marks_append, same_both, placed_append, placed_later}
 use Rattle.vc_gen.proofs.Blockwise.{alike_next, givens_push}
+use Rattle.vc_gen.specs.Laid.{blocks_laid}
+use Rattle.vc_gen.proofs.Placed.{laid_next}
+use Rattle.vc_gen.specs.Singly.{blocks_checked, one_if, count_breaks}
+use Rattle.vc_gen.proofs.Checked.{checked_next}
+use Rattle.vc_gen.proofs.Counting.{counted_later, counted_both}
+use Rattle.vc_gen.proofs.Singling.{count_push}
+use Rattle.vc_gen.proofs.Asking.{asked_later, asked_both}
 use Rattle.vc_gen.proofs.Signing.{signed_later, signed_both}
 
 pub fit_at : (csorts gsorts lsorts : List Sort) (bs : List PassiveBlock) (i : ℕ) (x : PassiveBlock) → AllFit csorts gsorts lsorts bs → i < length bs → x ≡ slice_index_or bs i x → BlockFits csorts gsorts lsorts x
@@ -74,9 +81,11 @@ went_start cs spare old d edges first bs r = record {
   sites = [];
   sites_are = sym (append-nil d.sites);
   sites_there = tt;
+  laid = refl;
   asserts = [];
   asserts_are = sym (append-nil d.asserts);
   asserts_there = tt;
+  checked = refl;
   next = omega arith;
   numbers = sym (append-nil (variables_in old));
   fit = λ a f h. f;
@@ -87,7 +96,9 @@ went_start cs spare old d edges first bs r = record {
     edges = λ a dead f. refl;
     calls = λ a dead f. tt;
     places = λ a dead f. refl;
+    single = λ a dead f. refl;
     signed = tt;
+    asked = λ sorted. tt;
   };
 }
   where
@@ -208,9 +219,11 @@ went_next cs spare old mid new d m e edges edges1 edges2 first waits left bs i x
       sites = h.sites ++ k.sites;
       sites_are = k.sites_are ∙ ap (λ r. r ++ k.sites) h.sites_are ∙ append_assoc d.sites h.sites k.sites;
       sites_there = sites_there_append new h.sites k.sites (sites_stay mid new h.sites k.later h.sites_there) k.sites_there;
+      laid = laid_next h.sites k.sites (take i bs) x d.next m.next h.laid h.next k.laid ∙ sym (ap (blocks_laid d.next) taken);
       asserts = h.asserts ++ k.asserts;
       asserts_are = k.asserts_are ∙ ap (λ r. r ++ k.asserts) h.asserts_are ∙ append_assoc d.asserts h.asserts k.asserts;
       asserts_there = fails_there_append new h.asserts k.asserts (fails_stay mid new h.asserts k.later h.asserts_there) k.asserts_there;
+      checked = checked_next h.asserts k.asserts (take i bs) x h.checked k.checked ∙ sym (ap blocks_checked taken);
       next = omega (arith, h.next, k.next, count);
       numbers = numbers_then (variables_in old) (variables_in mid) (variables_in new) d.next m.next n1 n2 (length (blocks_sorts (take (i + 1) bs))) h.numbers h.next k.numbers count;
       fit = λ a f s.
@@ -261,6 +274,15 @@ went_next cs spare old mid new d m e edges edges1 edges2 first waits left bs i x
                 ∙ ap (λ r. r ++ true_sites a new k.sites) (placed_later mid new a h.sites k.later h.sites_there ∙ w.places a dead f1)
                 ∙ ap (λ r. all_places flat q sn ++ r) (b.places a dead f ∙ alike_places flat q dead (g a) (es a) fs (w.alike a dead f1))
                 ∙ sym (ap (λ (x : List Given). all_places flat q (seen flat q dead x (start a))) (row a) ∙ ap (all_places flat q) (seen_push flat q dead (gs a) (g a) (start a)) ∙ places_push flat q sn (seen_at dead (g a) fs));
+            asked = λ sorted. asked_both flat new h.sites k.sites (asked_later flat mid new h.sites k.later (w.asked sorted)) (b.asked sorted);
+            single = λ a dead f.
+                let fs = fold flat q dead (gs a) (start a) in
+                let f1 = fits_before a mid new k.later f in
+                let sn = seen flat q dead (gs a) (start a) in
+                let past = counted_later mid new a h.asserts h.sites k.later h.asserts_there h.sites_there ∙ w.single a dead f1 in
+                let last = b.single a dead f ∙ ap one_if (alike_breaks flat q dead (g a) (es a) fs (w.alike a dead f1)) in
+                counted_both a new h.asserts k.asserts h.sites k.sites (count_breaks flat q sn) (one_if (breaks_seen flat q (seen_at dead (g a) fs))) past last
+                ∙ sym (ap (λ (x : List Given). count_breaks flat q (seen flat q dead x (start a))) (row a) ∙ ap (count_breaks flat q) (seen_push flat q dead (gs a) (g a) (start a)) ∙ count_push flat q sn (seen_at dead (g a) fs));
             signed = signed_both flat new h.sites k.sites (signed_later flat mid new h.sites k.later w.signed) b.signed;
             calls = λ a dead f.
                 let fs = fold flat q dead (gs a) (start a) in
@@ -293,14 +315,16 @@ went_whole cs spare old new d e edges edges1 first waits bs i l h =
       sites = h.sites;
       sites_are = h.sites_are;
       sites_there = h.sites_there;
+      laid = h.laid ∙ ap (blocks_laid d.next) all;
       asserts = h.asserts;
       asserts_are = h.asserts_are;
       asserts_there = h.asserts_there;
+      checked = h.checked ∙ ap blocks_checked all;
       next = h.next ∙ ap (λ xs. d.next + length (blocks_sorts xs)) all;
       numbers = h.numbers ∙ ap (λ xs. variables_in old ++ numbers_from d.next (length (blocks_sorts xs))) all;
       fit = λ a f k. h.fit a f (ap (λ xs. sorted_as (blocks_sorts xs) (reads a d.next (length (blocks_sorts xs)))) all ∙ k);
       stage = h.stage;
       says = λ flat q order are there st fit.
           let n : length order ≤ i = omega (arith, l, ap length are, orders_count flat q order) in
-          subst (λ (ns : List ℕ). WentSays flat q ns cs old d first new e waits h.marks h.sites) (take_all order i n) (h.says flat q order are there st fit);
+          subst (λ (ns : List ℕ). WentSays flat q ns cs old d first new e waits h.marks h.sites h.asserts) (take_all order i n) (h.says flat q order are there st fit);
     }

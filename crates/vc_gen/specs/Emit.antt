@@ -23,7 +23,10 @@ use Rattle.vc_gen.specs.declared.parts.Draft.{Draft}
 use Rattle.vc_gen.specs.declared.parts.SiteTerm.{SiteTerm}
 use Rattle.vc_gen.specs.declared.parts.FailTerm.{FailTerm}
 use Rattle.vc_gen.specs.Standing.{Later, Plain, AreOf, variables_in}
-use Rattle.vc_gen.specs.Items.{bool_sort, AllRead, made, chosen, ItemFits, ItemsFit, SiteMeans, FailMeans, inputs, on_end, fails_in, sites_in, asserts_in}
+use Rattle.vc_gen.specs.Laid.{site_laid, calls_laid}
+use Rattle.vc_gen.specs.Singly.{assert_place, checks_at}
+use Rattle.vc_gen.specs.Fitting.{SortsAre}
+use Rattle.vc_gen.specs.Items.{bool_sort, AllRead, sorts_of_all, made_by, made, chosen, ItemFits, ItemsFit, SiteMeans, FailMeans, inputs, on_end, fails_in, sites_in, asserts_in}
 
 -- the constants and the versions, whose sorts are known, and the bits stand in the nodes; new variables are above all others
 pub record Stands (nodes : List TermNode) (cs : List ℕ) (d : Draft) (csorts vsorts : List Sort) : Type 0 where
@@ -172,6 +175,25 @@ SitesOf nodes (Check p e ∷ items) ts = SitesOf nodes items ts
 SitesOf nodes (Site p f args before outs changes after ∷ items) [] = ⊥
 SitesOf nodes (Site p f args before outs changes after ∷ items) (t ∷ ts) = SiteIs nodes p outs changes after t × SitesOf nodes items ts
 
+-- What a call is asked for has the sorts that its item says: the arguments those of their expressions, the globals before it those of their versions.
+pub record SiteAsks (nodes : List TermNode) (vsorts : List Sort) (p : ℕ) (args : List (List ExprNode)) (before : List ℕ) (s : SiteTerm) : Type 0 where
+  pub proc_is : s.proc ≡ p
+  pub args_are : AreOf nodes s.args (sorts_of_all args)
+  pub before_are : (ss : List Sort) → SortsAre vsorts before ss → AreOf nodes s.globals_before ss
+
+-- the same of each call, behind versions of these sorts
+abbrev pub SitesAsk : List TermNode → List Sort → List Item → List SiteTerm → Type 0
+SitesAsk nodes vsorts [] [] = Unit {0}
+SitesAsk nodes vsorts [] (t ∷ ts) = ⊥
+SitesAsk nodes vsorts (Let v e ∷ items) ts = SitesAsk nodes (vsorts ++ made_by (Let v e)) items ts
+SitesAsk nodes vsorts (Zero v s ∷ items) ts = SitesAsk nodes (vsorts ++ made_by (Zero v s)) items ts
+SitesAsk nodes vsorts (Free v s ∷ items) ts = SitesAsk nodes (vsorts ++ made_by (Free v s)) items ts
+SitesAsk nodes vsorts (Need e ∷ items) ts = SitesAsk nodes (vsorts ++ made_by (Need e)) items ts
+SitesAsk nodes vsorts (Check p e ∷ items) ts = SitesAsk nodes (vsorts ++ made_by (Check p e)) items ts
+SitesAsk nodes vsorts (Site p f args before outs changes after ∷ items) [] = ⊥
+SitesAsk nodes vsorts (Site p f args before outs changes after ∷ items) (t ∷ ts) =
+    SiteAsks nodes vsorts p args before t × SitesAsk nodes (vsorts ++ made_by (Site p f args before outs changes after)) items ts
+
 -- where a call stands: its block, and its number there
 abbrev pub site_place : SiteTerm → ℕ × ℕ
 site_place s = (s.block, s.call)
@@ -200,12 +222,15 @@ pub record Step (cs : List ℕ) (block : ℕ) (old : List TermNode) (d : Draft) 
   pub sites_there : SitesThere new sites
   pub sites_of : SitesOf new items sites
   pub sites_behind : e.sites ≡ d.sites ++ sites
+  pub asked : (csorts vsorts : List Sort) → Stands old cs d csorts vsorts → SitesAsk new vsorts items sites
   pub numbered : map site_place sites ≡ places_from block d.calls (length sites)
+  pub laid : map site_laid sites ≡ calls_laid block d.calls d.next items
   pub calls : e.calls ≡ d.calls + length sites
   pub variables : variables_in new ≡ variables_in old ++ numbers_from d.next (length (chosen items))
   pub asserts : List FailTerm
   pub asserts_there : FailsThere new asserts
   pub asserts_behind : e.asserts ≡ d.asserts ++ asserts
+  pub checked : map assert_place asserts ≡ checks_at block items
   pub says : (a : ℕ → Value) (consts : List Value) (vals : ℕ → Value) → IsTrue (fits a new) → Meant a new cs e.versions consts vals → Says cs block old d items new e sites asserts a consts vals
   pub fit : (a : ℕ → Value) → IsTrue (fits a old) → sorted_as (chosen items) (reads a d.next (length (chosen items))) ≡ true → IsTrue (fits a new)
 
@@ -234,6 +259,7 @@ pub record ArgsSay (old : List TermNode) (cs versions : List ℕ) (args : List (
   pub plain : Plain old new
   pub sorts : List Sort
   pub are : AreOf new ts sorts
+  pub sorts_are : sorts ≡ sorts_of_all args
   pub values_are : (a : ℕ → Value) (consts : List Value) (vals : ℕ → Value) → Meant a old cs versions consts vals → map (at (values a new)) ts ≡ eval_all (look_at consts vals) args
 
 -- the terms of versions

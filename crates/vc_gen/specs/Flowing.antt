@@ -30,7 +30,10 @@ use Rattle.vc_gen.specs.declared.parts.FailTerm.{FailTerm}
 use Rattle.vc_gen.specs.Standing.{Later, AreOf, variables_in}
 use Rattle.vc_gen.specs.Items.{bool_sort}
 use Rattle.vc_gen.specs.Emit.{FailsThere, site_value, SitesThere}
-use Rattle.vc_gen.specs.Signed.{SitesSigned}
+use Rattle.passive_form.specs.WellSorted.{ProcSorted}
+use Rattle.vc_gen.specs.Signed.{SitesSigned, SitesAsked}
+use Rattle.vc_gen.specs.Laid.{site_laid, calls_laid, blocks_laid}
+use Rattle.vc_gen.specs.Singly.{assert_place, checks_at, blocks_checked, true_asserts, failed_sites, one_if, count_breaks}
 use Rattle.vc_gen.specs.Exact.{true_edges, EdgesThere, SameCalls, true_sites}
 use Rattle.vc_gen.specs.Inputs.{given_at, givens_at}
 use Rattle.vc_gen.specs.Instance.{all_at, edges_at}
@@ -70,7 +73,7 @@ pub record BlockReady (nodes : List TermNode) (cs : List ℕ) (spare : Wait) (d 
   pub fit : BlockFits csorts gsorts lsorts block
 
 -- the terms of a block do with the waiting edges what the block does, and its fail bit is that of the block
-pub record BlockSays (flat : Limited) (q : FlatProc) (n : ℕ) (cs : List ℕ) (old : List TermNode) (d : Draft) (waits : List Wait) (new : List TermNode) (e : Draft) (left : List Wait) (marks : List EdgeTerm) (sites : List SiteTerm) : Type 0 where
+pub record BlockSays (flat : Limited) (q : FlatProc) (n : ℕ) (cs : List ℕ) (old : List TermNode) (d : Draft) (waits : List Wait) (new : List TermNode) (e : Draft) (left : List Wait) (marks : List EdgeTerm) (sites : List SiteTerm) (asserts : List FailTerm) : Type 0 where
   pub alike : (a : ℕ → Value) (dead : Env) → IsTrue (fits a new) →
       Alike (edges_at a new (all_at a new cs) left) (step flat q dead (given_at flat q a d.next n) (edges_at a old (all_at a old cs) waits))
   pub fails : (a : ℕ → Value) (dead : Env) → IsTrue (fits a new) →
@@ -82,7 +85,10 @@ pub record BlockSays (flat : Limited) (q : FlatProc) (n : ℕ) (cs : List ℕ) (
       SameCalls (map (site_value a new) sites) (passages_seen flat q (seen_at dead (given_at flat q a d.next n) (edges_at a old (all_at a old cs) waits)))
   pub places : (a : ℕ → Value) (dead : Env) → IsTrue (fits a new) →
       true_sites a new sites ≡ places_seen flat q (seen_at dead (given_at flat q a d.next n) (edges_at a old (all_at a old cs) waits))
+  pub single : (a : ℕ → Value) (dead : Env) → IsTrue (fits a new) →
+      length (true_asserts a new asserts) + length (failed_sites a new sites) ≡ one_if (breaks_seen flat q (seen_at dead (given_at flat q a d.next n) (edges_at a old (all_at a old cs) waits)))
   pub signed : SitesSigned flat new sites
+  pub asked : ProcSorted flat q → SitesAsked flat new sites
 
 pub record BlockDone (cs : List ℕ) (spare : Wait) (old : List TermNode) (d : Draft) (waits : List Wait) (edges : List EdgeTerm) (block : PassiveBlock) (new : List TermNode) (e : Draft) (edges' : List EdgeTerm) (left : List Wait) : Type 0 where
   pub later : Later old new
@@ -92,18 +98,20 @@ pub record BlockDone (cs : List ℕ) (spare : Wait) (old : List TermNode) (d : D
   pub sites : List SiteTerm
   pub sites_are : e.sites ≡ d.sites ++ sites
   pub sites_there : SitesThere new sites
+  pub laid : map site_laid sites ≡ calls_laid block.number 0 d.next block.items
   pub asserts : List FailTerm
   pub asserts_are : e.asserts ≡ d.asserts ++ asserts
   pub asserts_there : FailsThere new asserts
+  pub checked : map assert_place asserts ≡ checks_at block.number block.items
   pub next : e.next ≡ d.next + length (block_sorts block)
   pub numbers : variables_in new ≡ variables_in old ++ numbers_from d.next (length (block_sorts block))
   pub fit : (a : ℕ → Value) → IsTrue (fits a old) → sorted_as (block_sorts block) (reads a d.next (length (block_sorts block))) ≡ true → IsTrue (fits a new)
   pub stage : (csorts gsorts lsorts : List Sort) → Stage csorts gsorts lsorts old cs spare d waits → BlockFits csorts gsorts lsorts block → Stage csorts gsorts lsorts new cs spare e left
   pub says : (flat : Limited) (q : FlatProc) (n : ℕ) (b : FlatBlock) → slice_get q.blocks n ≡ Some b → cmds_there flat q b.cmds ≡ true → block ≡ passive_block flat q n b →
-      Stage flat.consts flat.globals (variables_of q) old cs spare d waits → BlockSays flat q n cs old d waits new e left marks sites
+      Stage flat.consts flat.globals (variables_of q) old cs spare d waits → BlockSays flat q n cs old d waits new e left marks sites asserts
 
 -- the blocks of this order have become terms
-pub record WentSays (flat : Limited) (q : FlatProc) (order : List ℕ) (cs : List ℕ) (old : List TermNode) (d : Draft) (first : List Wait) (nodes : List TermNode) (e : Draft) (waits : List Wait) (marks : List EdgeTerm) (sites : List SiteTerm) : Type 0 where
+pub record WentSays (flat : Limited) (q : FlatProc) (order : List ℕ) (cs : List ℕ) (old : List TermNode) (d : Draft) (first : List Wait) (nodes : List TermNode) (e : Draft) (waits : List Wait) (marks : List EdgeTerm) (sites : List SiteTerm) (asserts : List FailTerm) : Type 0 where
   pub alike : (a : ℕ → Value) (dead : Env) → IsTrue (fits a nodes) →
       Alike (edges_at a nodes (all_at a nodes cs) waits) (fold flat q dead (givens_at flat q a d.next order) (edges_at a old (all_at a old cs) first))
   pub fails : (a : ℕ → Value) (dead : Env) → IsTrue (fits a nodes) →
@@ -113,7 +121,10 @@ pub record WentSays (flat : Limited) (q : FlatProc) (order : List ℕ) (cs : Lis
       SameCalls (map (site_value a nodes) sites) (all_passages flat q (seen flat q dead (givens_at flat q a d.next order) (edges_at a old (all_at a old cs) first)))
   pub places : (a : ℕ → Value) (dead : Env) → IsTrue (fits a nodes) →
       true_sites a nodes sites ≡ all_places flat q (seen flat q dead (givens_at flat q a d.next order) (edges_at a old (all_at a old cs) first))
+  pub single : (a : ℕ → Value) (dead : Env) → IsTrue (fits a nodes) →
+      length (true_asserts a nodes asserts) + length (failed_sites a nodes sites) ≡ count_breaks flat q (seen flat q dead (givens_at flat q a d.next order) (edges_at a old (all_at a old cs) first))
   pub signed : SitesSigned flat nodes sites
+  pub asked : ProcSorted flat q → SitesAsked flat nodes sites
 
 -- all that the blocks ask for
 pub record FlowReady (nodes : List TermNode) (cs : List ℕ) (spare : Wait) (d : Draft) (first : List Wait) (blocks : List PassiveBlock) : Type 0 where
@@ -132,15 +143,17 @@ pub record Went (cs : List ℕ) (spare : Wait) (old : List TermNode) (d : Draft)
   pub sites : List SiteTerm
   pub sites_are : e.sites ≡ d.sites ++ sites
   pub sites_there : SitesThere nodes sites
+  pub laid : map site_laid sites ≡ blocks_laid d.next (take i blocks)
   pub asserts : List FailTerm
   pub asserts_are : e.asserts ≡ d.asserts ++ asserts
   pub asserts_there : FailsThere nodes asserts
+  pub checked : map assert_place asserts ≡ blocks_checked (take i blocks)
   pub next : e.next ≡ d.next + length (blocks_sorts (take i blocks))
   pub numbers : variables_in nodes ≡ variables_in old ++ numbers_from d.next (length (blocks_sorts (take i blocks)))
   pub fit : (a : ℕ → Value) → IsTrue (fits a old) → sorted_as (blocks_sorts (take i blocks)) (reads a d.next (length (blocks_sorts (take i blocks)))) ≡ true → IsTrue (fits a nodes)
   pub stage : (csorts gsorts lsorts : List Sort) → Stage csorts gsorts lsorts old cs spare d first → AllFit csorts gsorts lsorts blocks → Stage csorts gsorts lsorts nodes cs spare e waits
   pub says : (flat : Limited) (q : FlatProc) (order : List ℕ) → blocks ≡ passive_blocks flat q order → AllThere flat q order →
-      Stage flat.consts flat.globals (variables_of q) old cs spare d first → AllFit flat.consts flat.globals (variables_of q) blocks → WentSays flat q (take i order) cs old d first nodes e waits marks sites
+      Stage flat.consts flat.globals (variables_of q) old cs spare d first → AllFit flat.consts flat.globals (variables_of q) blocks → WentSays flat q (take i order) cs old d first nodes e waits marks sites asserts
 
 -- all blocks have become terms
 pub record WentAll (cs : List ℕ) (spare : Wait) (old : List TermNode) (d : Draft) (edges : List EdgeTerm) (first : List Wait) (blocks : List PassiveBlock) (nodes : List TermNode) (e : Draft) (edges' : List EdgeTerm) (waits : List Wait) : Type 0 where
@@ -151,12 +164,14 @@ pub record WentAll (cs : List ℕ) (spare : Wait) (old : List TermNode) (d : Dra
   pub sites : List SiteTerm
   pub sites_are : e.sites ≡ d.sites ++ sites
   pub sites_there : SitesThere nodes sites
+  pub laid : map site_laid sites ≡ blocks_laid d.next blocks
   pub asserts : List FailTerm
   pub asserts_are : e.asserts ≡ d.asserts ++ asserts
   pub asserts_there : FailsThere nodes asserts
+  pub checked : map assert_place asserts ≡ blocks_checked blocks
   pub next : e.next ≡ d.next + length (blocks_sorts blocks)
   pub numbers : variables_in nodes ≡ variables_in old ++ numbers_from d.next (length (blocks_sorts blocks))
   pub fit : (a : ℕ → Value) → IsTrue (fits a old) → sorted_as (blocks_sorts blocks) (reads a d.next (length (blocks_sorts blocks))) ≡ true → IsTrue (fits a nodes)
   pub stage : (csorts gsorts lsorts : List Sort) → Stage csorts gsorts lsorts old cs spare d first → AllFit csorts gsorts lsorts blocks → Stage csorts gsorts lsorts nodes cs spare e waits
   pub says : (flat : Limited) (q : FlatProc) (order : List ℕ) → blocks ≡ passive_blocks flat q order → AllThere flat q order →
-      Stage flat.consts flat.globals (variables_of q) old cs spare d first → AllFit flat.consts flat.globals (variables_of q) blocks → WentSays flat q order cs old d first nodes e waits marks sites
+      Stage flat.consts flat.globals (variables_of q) old cs spare d first → AllFit flat.consts flat.globals (variables_of q) blocks → WentSays flat q order cs old d first nodes e waits marks sites asserts

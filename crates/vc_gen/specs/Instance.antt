@@ -29,7 +29,9 @@ use Rattle.vc_gen.specs.declared.parts.FailTerm.{FailTerm}
 use Rattle.vc_gen.specs.Emit.{site_value, SitesThere, FailsThere}
 use Rattle.vc_gen.specs.Exact.{true_edges, EdgesThere, SameCalls, asked, given_back, true_sites}
 use Rattle.vc_gen.specs.Standing.{Later, AreOf}
-use Rattle.vc_gen.specs.Signed.{SitesSigned}
+use Rattle.passive_form.specs.WellSorted.{ProcSorted}
+use Rattle.vc_gen.specs.Signed.{SitesSigned, SitesAsked}
+use Rattle.vc_gen.specs.Laid.{site_laid, sites_laid}
 use Rattle.vc_gen.specs.Inputs.{sorts_of_blocks, givens_at}
 
 abbrev pub all_at : (ℕ → Value) → List TermNode → List ℕ → List Value
@@ -53,6 +55,12 @@ start_sorts q (Loop p head) = []
 
 abbrev pub room : Limited → FlatProc → List ℕ → List Sort
 room flat q order = start_sorts q q.kind ++ sorts_of_blocks flat q order
+
+-- The variables from k on are those of the layout: so many, and the terms have their sorts where the old ones have them and the values of the new
+-- variables are of the layout's sorts, whatever these values are.
+pub record IsRoom (flat : Limited) (q : FlatProc) (order : List ℕ) (k : ℕ) (old new : List TermNode) (next : ℕ) : Type 0 where
+  pub next_is : next ≡ k + length (room flat q order)
+  pub fit : (a : ℕ → Value) → IsTrue (fits a old) → sorted_as (room flat q order) (reads a k (length (room flat q order))) ≡ true → IsTrue (fits a new)
 
 abbrev pub first_edge : Env → List Edge
 first_edge env = record { target = Some 0; live = true; env = env } ∷ []
@@ -85,6 +93,8 @@ pub record Built (flat : Limited) (q : FlatProc) (order : List ℕ) (actuals : A
       true_sites a new sites ≡ all_places flat q (seen flat q (env a) (givens_at flat q a (k + length (start_sorts q q.kind)) order) (first_edge (env a)))
   pub sites_there : SitesThere new sites
   pub signed : SitesSigned flat new sites
+  pub asked : ProcSorted flat q → SitesAsked flat new sites
+  pub laid : map site_laid sites ≡ sites_laid flat q order (k + length (start_sorts q q.kind))
   pub ended_is : (a : ℕ → Value) → IsTrue (fits a new) → is_on (value a new ended) ≡ ends (edges_at a new (all_at a new actuals.consts) left)
   pub outs_are : (a : ℕ → Value) → IsTrue (fits a new) → ends (edges_at a new (all_at a new actuals.consts) left) ≡ true →
       all_at a new outs ≡ outs_of q (end_env (env a) (edges_at a new (all_at a new actuals.consts) left)).locals

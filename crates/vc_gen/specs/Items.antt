@@ -32,6 +32,11 @@ made_by (Need e) = []
 made_by (Check p e) = []
 made_by (Site p f args before outs changes after) = bool_sort ∷ (outs ++ after)
 
+-- the sorts of expressions
+abbrev pub sorts_of_all : List (List ExprNode) → List Sort
+sorts_of_all [] = []
+sorts_of_all (e ∷ es) = sort_or (whole_sort e) ∷ sorts_of_all es
+
 abbrev pub made : List Item → List Sort
 made [] = []
 made (i ∷ items) = made_by i ++ made items

@@ -1,8 +1,9 @@
 -- A procedure becomes terms: what is asked for, and what its parts are.
 use Rattle.flat_prog.specs.Shape.{IsFlat}
 use Rattle.flat_prog.specs.Program.{FlatProgram}
+use Rattle.flat_prog.specs.Once.{numbers_differ}
 use Rattle.flat_prog.specs.Sites.{numbers_from}
-use Rattle.std.specs.Prelude.{◌≡◌, ℕ, ◌+◌, Bool, true, List, [], ◌∷◌, ◌++◌, Some, slice_get, IsTrue, IsSome}
+use Rattle.std.specs.Prelude.{◌≡◌, ℕ, ◌+◌, Bool, true, List, [], ◌∷◌, ◌++◌, map, length, Some, slice_get, IsTrue, IsSome}
 use Rattle.hy_val.specs.Values.{is_on}
 use Rattle.hy_val.specs.declared.value.Value.{Value}
 use Rattle.hy_term.specs.TermSorts.{sorts, sort_at}
@@ -22,11 +23,13 @@ use Rattle.vc_gen.specs.declared.parts.Instance.{Instance}
 use Rattle.vc_gen.specs.declared.parts.Wait.{Wait}
 use Rattle.vc_gen.specs.Standing.{AreOf, variables_in}
 use Rattle.vc_gen.specs.Emit.{SitesThere}
-use Rattle.vc_gen.specs.Signed.{SitesSigned}
+use Rattle.vc_gen.specs.Signed.{SitesSigned, SitesAsked}
+use Rattle.vc_gen.specs.Laid.{site_laid, sites_laid}
+use Rattle.vc_gen.specs.Singly.{FailsOnce, assert_place, asserts_laid}
 use Rattle.vc_gen.specs.Plans.{EndsPlanned, FailsPlanned}
 use Rattle.vc_gen.specs.Items.{bool_sort}
 use Rattle.vc_gen.specs.Fitting.{PassiveFits}
-use Rattle.vc_gen.specs.Instance.{NeverBoth, PartsThere, Built, EndsSound, EndsComplete, FailsSound, FailsComplete, EndsPlaced, FailsPlaced}
+use Rattle.vc_gen.specs.Instance.{NeverBoth, PartsThere, Built, EndsSound, EndsComplete, FailsSound, FailsComplete, EndsPlaced, FailsPlaced, IsRoom, start_sorts}
 
 -- a literal
 pub record IsLiteral (nodes : List TermNode) (t : ℕ) (bit : Bool) : Type 0 where
@@ -60,7 +63,7 @@ pub record NewVariables (old : List TermNode) (k : ℕ) (new : List TermNode) (n
 abbrev pub IsBuilt : List TermNode → Passive → Actuals → ℕ → List TermNode → Instance → Type 0
 IsBuilt old p actuals k new i = (flat : Limited) (q : FlatProc) (order : List ℕ) → p ≡ passive_of flat q order → AllThere flat q order →
     (left : List Wait) × Built flat q order actuals k old new left i.ended i.fails i.outs i.globals i.edges i.sites
-    × PartsThere flat.globals q.outs new i.ended i.fails i.outs i.globals i.edges i.asserts
+    × PartsThere flat.globals q.outs new i.ended i.fails i.outs i.globals i.edges i.asserts × IsRoom flat q order k old new i.next × FailsOnce new i.fails i.asserts i.sites × (map assert_place i.asserts ≡ asserts_laid q order)
 
 -- the assignments that make `ended` true are the runs that end
 abbrev pub SaysEnds : List TermNode → Passive → Actuals → ℕ → List TermNode → Instance → Type 0
@@ -95,6 +98,24 @@ HasSites p new i = (flat : Limited) (q : FlatProc) (order : List ℕ) → p ≡ 
 abbrev pub HasTerms : Passive → List TermNode → Instance → Type 0
 HasTerms p new i = (flat : Limited) (q : FlatProc) (order : List ℕ) → p ≡ passive_of flat q order → AllThere flat q order → PartsThere flat.globals q.outs new i.ended i.fails i.outs i.globals i.edges i.asserts
 
+-- where the run fails exactly one bit is true among those of the asserts and those of the calls that fail, else none; and the asserts are those of the
+-- blocks in the order, one for each
+abbrev pub FailsAtOne : Passive → List TermNode → Instance → Type 0
+FailsAtOne p new i =
+    (flat : Limited) (q : FlatProc) (order : List ℕ) → p ≡ passive_of flat q order → AllThere flat q order → FailsOnce new i.fails i.asserts i.sites × (map assert_place i.asserts ≡ asserts_laid q order)
+
+-- where the procedure has its sorts, each site is asked for values of its callee's sorts, and for all globals
+abbrev pub HasRequests : Passive → List TermNode → Instance → Type 0
+HasRequests p new i = (flat : Limited) (q : FlatProc) (order : List ℕ) → p ≡ passive_of flat q order → AllThere flat q order → ProcSorted flat q → SitesAsked flat new i.sites
+
+-- the sites are the calls of the blocks in the order, one for each, with the variables that the layout has for it
+abbrev pub IsLaidOut : Passive → ℕ → Instance → Type 0
+IsLaidOut p k i = (flat : Limited) (q : FlatProc) (order : List ℕ) → p ≡ passive_of flat q order → AllThere flat q order → map site_laid i.sites ≡ sites_laid flat q order (k + length (start_sorts q q.kind))
+
+-- the new variables have the sorts of the layout: as many as it has, and any values of these sorts will do
+abbrev pub HasRoom : List TermNode → Passive → ℕ → List TermNode → Instance → Type 0
+HasRoom old p k new i = (flat : Limited) (q : FlatProc) (order : List ℕ) → p ≡ passive_of flat q order → AllThere flat q order → IsRoom flat q order k old new i.next
+
 -- the sites whose bits are true are the calls of the path's blocks: all of them where the run ends, and the first ones where it fails
 abbrev pub HasPlaces : Passive → Actuals → List TermNode → Instance → Type 0
 HasPlaces p actuals new i = (flat : Limited) (q : FlatProc) (order : List ℕ) → p ≡ passive_of flat q order → AllThere flat q order → EndsPlaced flat q actuals new i.ended i.edges i.sites × FailsPlaced flat q actuals new i.fails i.edges i.sites
@@ -111,3 +132,7 @@ PassiveReady =
 
 abbrev pub SortedThere : Type 0
 SortedThere = (flat : Limited) (q : FlatProc) (n : ℕ) (b : FlatBlock) → ProcSorted flat q → slice_get q.blocks n ≡ Some b → cmds_there flat q b.cmds ≡ true
+
+-- the order of a passive form has no block twice
+abbrev pub BlocksStandOnce : Type 0
+BlocksStandOnce = (flat : Limited) (q : FlatProc) (p : Passive) → (is : IsPassiveOf flat q p) → numbers_differ is.order ≡ true
