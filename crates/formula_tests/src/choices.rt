@@ -2,7 +2,7 @@
 
 use crate::exprs::{by_number, byte, exit, first_exit, number, read};
 use crate::formulas::{Formula, first_formula};
-use crate::procs::{assign, block, call, claim, havoc, source};
+use crate::procs::{assign, block, call, claim, havoc, source, swap};
 use crate::questions::{Part, can_be, is_over_once, makes};
 use flat_prog::{FlatCmd, FlatKind, FlatProc};
 use hy_val::{BvOp, Var};
@@ -44,6 +44,38 @@ fn a_havoc_takes_any_value(rt: HostRuntime) -> Result<(), Fail> {
         let facts = [(Part::Ended, 1), (Part::Out(0), y), (Part::Out(1), z)];
         assert!(rt; can_be(alloc, &formula, &facts)? == wanted);
     }
+    Ok(())
+}
+
+// `y := x; z := 7; y, z := z, y; return;`
+fn swapped(alloc: Global) -> Result<Formula, AllocError> {
+    let y = Var::Local(1);
+    let z = Var::Local(2);
+    let mut cmds = Vec::new(alloc);
+    cmds.push(assign(alloc, y, read(alloc, Var::Local(0))?)?)?;
+    cmds.push(assign(alloc, z, number(alloc, 7)?)?)?;
+    cmds.push(swap(alloc, (y, read(alloc, y)?), (z, read(alloc, z)?))?)?;
+    let mut blocks = Vec::new(alloc);
+    blocks.push(block(alloc, cmds, &[])?)?;
+    let mut procs = Vec::new(alloc);
+    procs.push(source(alloc, &[byte()], &[byte(), byte()], blocks)?)?;
+    first_formula(alloc, &[], procs)
+}
+
+// The values of an assignment are those before it.
+#[test]
+fn an_assignment_swaps(rt: HostRuntime) -> Result<(), Fail> {
+    let alloc = rt.alloc();
+    let formula = swapped(alloc)?;
+    let given = [(Part::Ended, 1), (Part::In(0), 9)];
+    assert!(rt;
+        makes(
+            alloc,
+            &formula,
+            &given,
+            &[(Part::Out(0), 7), (Part::Out(1), 9)]
+        )?
+    );
     Ok(())
 }
 
@@ -120,5 +152,40 @@ fn a_loop_hands_on_its_variables(rt: HostRuntime) -> Result<(), Fail> {
     let failing = [(Part::Fails, 1)];
     let inside = [(Part::Comes(3, 0), 1), (Part::Broken(3, 0), 1)];
     assert!(rt; makes(alloc, &formula, &failing, &inside)?);
+    Ok(())
+}
+
+// A loop procedure that asserts that its local is 0 and returns.
+fn resting(alloc: Global) -> Result<Formula, AllocError> {
+    let mut cmds = Vec::new(alloc);
+    cmds.push(claim(1, by_number(alloc, Var::Local(3), BvOp::Eq, 0)?))?;
+    let mut blocks = Vec::new(alloc);
+    blocks.push(block(alloc, cmds, &[])?)?;
+    let mut procs = Vec::new(alloc);
+    procs.push(FlatProc {
+        kind: FlatKind::Loop { proc: 0, head: 1 },
+        ins: Items::from_slice(alloc, &[byte()])?,
+        outs: Items::from_slice(alloc, &[byte(), exit()])?,
+        locals: Items::from_slice(alloc, &[byte()])?,
+        blocks: Items::from_vec(blocks),
+    })?;
+    first_formula(alloc, &[], procs)
+}
+
+// The outs of a loop procedure begin as its ins and the exit 0, and its locals as 0.
+#[test]
+fn a_loop_begins_on_its_ins(rt: HostRuntime) -> Result<(), Fail> {
+    let alloc = rt.alloc();
+    let formula = resting(alloc)?;
+    assert!(rt; !can_be(alloc, &formula, &[(Part::Fails, 1)])?);
+    let given = [(Part::Ended, 1), (Part::In(0), 9)];
+    assert!(rt;
+        makes(
+            alloc,
+            &formula,
+            &given,
+            &[(Part::Out(0), 9), (Part::Out(1), 0)]
+        )?
+    );
     Ok(())
 }

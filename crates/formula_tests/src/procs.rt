@@ -12,6 +12,14 @@ pub fn assign(alloc: Global, var: Var, expr: Expr) -> Result<FlatCmd, AllocError
     Ok(FlatCmd::Assign(pairs))
 }
 
+/// `one, other := other, one`, by the expressions that read these.
+pub fn swap(alloc: Global, one: (Var, Expr), other: (Var, Expr)) -> Result<FlatCmd, AllocError> {
+    let mut pairs = Items::new(alloc);
+    pairs.push((one.0, other.1))?;
+    pairs.push((other.0, one.1))?;
+    Ok(FlatCmd::Assign(pairs))
+}
+
 /// `havoc var`
 pub fn havoc(alloc: Global, var: Var) -> Result<FlatCmd, AllocError> {
     Ok(FlatCmd::Havoc(Items::from_slice(alloc, &[var])?))

@@ -29,7 +29,7 @@ fn truth(alloc: Global) -> Result<Expr, AllocError>
     Ok(Expr::new(nodes))
 }
 
-#[tactic(auto, using(crate::proofs::Anywhere::anywhere))]
+#[tactic(auto, using(bpl_flow::proofs::Anywhere::anywhere))]
 fn assertion(alloc: Global) -> Result<TypedStmt, AllocError>
     ensures { IfOk result (λ s. Anywhere s) }
 {
@@ -37,7 +37,7 @@ fn assertion(alloc: Global) -> Result<TypedStmt, AllocError>
     Ok(TypedStmt::Assert { condition })
 }
 
-#[tactic(auto, using(crate::proofs::Anywhere::anywhere))]
+#[tactic(auto, using(bpl_flow::proofs::Anywhere::anywhere))]
 fn label(alloc: Global, at: usize, text: &[u8]) -> Result<TypedStmt, AllocError>
     ensures { IfOk result (λ s. Anywhere s) }
 {
@@ -46,7 +46,7 @@ fn label(alloc: Global, at: usize, text: &[u8]) -> Result<TypedStmt, AllocError>
 }
 
 // A goto that names the label once.
-#[tactic(auto, using(crate::proofs::Anywhere::anywhere))]
+#[tactic(auto, using(bpl_flow::proofs::Anywhere::anywhere))]
 fn goto(alloc: Global, at: usize, text: &[u8]) -> Result<TypedStmt, AllocError>
     ensures { IfOk result (λ s. Anywhere s) }
 {
@@ -56,7 +56,7 @@ fn goto(alloc: Global, at: usize, text: &[u8]) -> Result<TypedStmt, AllocError>
 }
 
 // A goto that names the label twice.
-#[tactic(auto, using(crate::proofs::Anywhere::anywhere))]
+#[tactic(auto, using(bpl_flow::proofs::Anywhere::anywhere))]
 fn goto_twice(alloc: Global, at: usize, text: &[u8]) -> Result<TypedStmt, AllocError>
     ensures { IfOk result (λ s. Anywhere s) }
 {
@@ -67,7 +67,7 @@ fn goto_twice(alloc: Global, at: usize, text: &[u8]) -> Result<TypedStmt, AllocE
 }
 
 // A break out of the innermost loop.
-#[tactic(auto, using(crate::proofs::Anywhere::anywhere))]
+#[tactic(auto, using(bpl_flow::proofs::Anywhere::anywhere))]
 fn plain_break(at: usize) -> TypedStmt
     ensures { Anywhere result }
 {
@@ -75,7 +75,7 @@ fn plain_break(at: usize) -> TypedStmt
 }
 
 // A break out of a statement with a label.
-#[tactic(auto, using(crate::proofs::Anywhere::anywhere))]
+#[tactic(auto, using(bpl_flow::proofs::Anywhere::anywhere))]
 fn break_of(alloc: Global, at: usize, text: &[u8]) -> Result<TypedStmt, AllocError>
     ensures { IfOk result (λ s. Anywhere s) }
 {
@@ -84,7 +84,7 @@ fn break_of(alloc: Global, at: usize, text: &[u8]) -> Result<TypedStmt, AllocErr
 }
 
 // `if (*) { part } else { other }`
-#[tactic(auto, using(crate::proofs::Anywhere::anywhere))]
+#[tactic(auto, using(bpl_flow::proofs::Anywhere::anywhere))]
 fn choice(part: Items<TypedStmt>, other: Items<TypedStmt>) -> TypedStmt
     requires part { AllAnywhere part }
     requires other { AllAnywhere other }
@@ -98,7 +98,7 @@ fn choice(part: Items<TypedStmt>, other: Items<TypedStmt>) -> TypedStmt
 }
 
 // `while (*) { body }`
-#[tactic(auto, using(crate::proofs::Anywhere::anywhere))]
+#[tactic(auto, using(bpl_flow::proofs::Anywhere::anywhere))]
 fn repetition(alloc: Global, body: Items<TypedStmt>) -> TypedStmt
     requires { AllAnywhere body }
     ensures { Anywhere result }
@@ -111,7 +111,7 @@ fn repetition(alloc: Global, body: Items<TypedStmt>) -> TypedStmt
 }
 
 // `while (true) { body }`
-#[tactic(auto, using(crate::proofs::Anywhere::anywhere))]
+#[tactic(auto, using(bpl_flow::proofs::Anywhere::anywhere))]
 fn guarded(alloc: Global, body: Items<TypedStmt>) -> Result<TypedStmt, AllocError>
     requires { AllAnywhere body }
     ensures { IfOk result (λ s. Anywhere s) }
@@ -124,7 +124,7 @@ fn guarded(alloc: Global, body: Items<TypedStmt>) -> Result<TypedStmt, AllocErro
     })
 }
 
-#[tactic(auto, using(crate::proofs::Anywhere::anywhere))]
+#[tactic(auto, using(bpl_flow::proofs::Anywhere::anywhere))]
 fn nothing(alloc: Global) -> Items<TypedStmt>
     ensures { AllAnywhere result }
 {
@@ -132,7 +132,7 @@ fn nothing(alloc: Global) -> Items<TypedStmt>
 }
 
 // The statements and one more.
-#[tactic(auto, using(crate::proofs::Anywhere::anywhere))]
+#[tactic(auto, using(bpl_flow::proofs::Anywhere::anywhere))]
 fn then(statements: Items<TypedStmt>, last: TypedStmt) -> Result<Items<TypedStmt>, AllocError>
     requires before { AllAnywhere statements }
     requires last { Anywhere last }
@@ -162,7 +162,7 @@ fn procedure(alloc: Global, name: &[u8], body: Option<TypedBody>) -> Result<Type
 }
 
 // `procedure p(); procedure main() { statements }`
-#[tactic(auto, using(crate::proofs::Anywhere::anywhere))]
+#[tactic(auto, using(bpl_flow::proofs::Anywhere::anywhere))]
 fn program(alloc: Global, statements: Items<TypedStmt>) -> Result<Typed, AllocError>
     requires { AllAnywhere statements }
     ensures { IfOk result (λ t. IsTrue (is_typed t)) }

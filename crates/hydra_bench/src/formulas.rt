@@ -79,35 +79,51 @@ fn block(alloc: Global, cmd: Option<FlatCmd>, targets: &[u32]) -> Result<FlatBlo
     Ok(FlatBlock { cmds, next })
 }
 
-// The blocks of a diamond, the first of which has this number. Too many blocks for numbers of 32 bits count as want of memory.
+// An assert that the variable is not 1.
+fn claim(alloc: Global, var: Var) -> Result<FlatCmd, AllocError> {
+    Ok(FlatCmd::Assert {
+        proc: 0,
+        number: 1,
+        expr: by_one(alloc, var, BvOp::Ne)?,
+    })
+}
+
+// The variable becomes 1 higher.
+fn raise(alloc: Global, var: Var) -> Result<FlatCmd, AllocError> {
+    let value = by_one(alloc, var, BvOp::BvAdd)?;
+    let mut pairs = Items::new(alloc);
+    pairs.push((var, value))?;
+    Ok(FlatCmd::Assign(pairs))
+}
+
+// One more block.
+fn push_block(
+    alloc: Global,
+    blocks: &mut Items<FlatBlock>,
+    cmd: Option<FlatCmd>,
+    targets: &[u32],
+) -> Result<(), AllocError> {
+    let block = block(alloc, cmd, targets)?;
+    blocks.push(block)
+}
+
+// The blocks of a diamond, the first of which has this number.
 fn push_diamond(
     alloc: Global,
     blocks: &mut Items<FlatBlock>,
     returns: bool,
     first: u32,
 ) -> Result<(), AllocError> {
-    let second = first.checked_add(1).ok_or(AllocError)?;
-    let third = first.checked_add(2).ok_or(AllocError)?;
-    let behind = first.checked_add(3).ok_or(AllocError)?;
     let var = Var::Local(first % 5);
-    let claim = FlatCmd::Assert {
-        proc: 0,
-        number: 1,
-        expr: by_one(alloc, var, BvOp::Ne)?,
-    };
-    let mut pairs = Items::new(alloc);
-    pairs.push((var, by_one(alloc, var, BvOp::BvAdd)?))?;
-    blocks.push(block(alloc, Some(claim), &[second, third])?)?;
-    blocks.push(block(alloc, Some(FlatCmd::Assign(pairs)), &[behind])?)?;
-    let none: [u32; 0] = [];
-    let targets = [behind];
-    let idle = if returns {
-        block(alloc, None, &none)?
-    } else {
-        block(alloc, None, &targets)?
-    };
-    blocks.push(idle)?;
-    Ok(())
+    let second = first.saturating_add(1);
+    let third = first.saturating_add(2);
+    let behind = [first.saturating_add(3)];
+    let claim = claim(alloc, var)?;
+    push_block(alloc, blocks, Some(claim), &[second, third])?;
+    let raise = raise(alloc, var)?;
+    push_block(alloc, blocks, Some(raise), &behind)?;
+    let targets = if returns { &behind[1..] } else { &behind[..] };
+    push_block(alloc, blocks, None, targets)
 }
 
 // The procedure.
@@ -116,10 +132,9 @@ fn procedure(alloc: Global, extent: Extent) -> Result<FlatProc, AllocError> {
     let mut first: u32 = 0;
     for _diamond in 0..extent.blocks / 3 {
         push_diamond(alloc, &mut blocks, extent.returns, first)?;
-        first = first.checked_add(3).ok_or(AllocError)?;
+        first = first.saturating_add(3);
     }
-    let none: [u32; 0] = [];
-    blocks.push(block(alloc, None, &none)?)?;
+    push_block(alloc, &mut blocks, None, &[])?;
     let locals = vec![in alloc; word(); extent.variables as usize]?;
     Ok(FlatProc {
         kind: FlatKind::Source { proc: 0 },
