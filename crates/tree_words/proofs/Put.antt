@@ -1,13 +1,13 @@
 -- Terms that are made so are a question.
-use Rattle.std.proofs.Common.{◌≡◌, ℕ, Bool, true, false, not, ◌&&◌, List, [], ◌∷◌, ◌++◌, length, refl, sym, ap, ◌∙◌, subst}
-use Rattle.std.specs.Prelude.{Option, IsTrue}
+use Rattle.std.proofs.Common.{◌≡◌, ℕ, Bool, true, List, refl, ap, ◌∙◌}
+use Rattle.std.specs.Prelude.{Option}
 use Rattle.std.proofs.lemmas.Bool.{and_from}
 use Rattle.hy_val.specs.declared.value.Value.{Value}
 use Rattle.hy_term.specs.Formula.{Formula as Terms}
 use Rattle.hy_term.specs.Laws.{EachValueHasItsSort}
 use Rattle.hy_term.specs.declared.node.TermNode.{TermNode}
 use Rattle.flat_prog.specs.Program.{FlatProgram}
-use Rattle.flat_prog.specs.Local.{Track, Request, have_sorts}
+use Rattle.flat_prog.specs.Local.{Track, have_sorts}
 use Rattle.flat_prog.specs.Changes.{MayBe}
 use Rattle.call_tree.specs.declared.piece.Decision2.{Decision2}
 use Rattle.tree_terms.proofs.Growth.{grows_not}

@@ -13,7 +13,7 @@ use Rattle.tree_terms.specs.declared.linked.EdgeTerms.{EdgeTerms}
 use Rattle.tree_terms.specs.declared.linked.TrackTerms.{TrackTerms}
 use Rattle.tree_terms.specs.declared.linked.Linked.{Linked}
 use Rattle.tree_terms.specs.declared.linked.Template.{Template as Formula}
-use Rattle.tree_terms.specs.Linked.{template_of, kid}
+use Rattle.tree_terms.specs.Linked.{kid}
 use Rattle.tree_terms.specs.Tables.{row}
 use Rattle.tree_words.specs.View.{SiteView, NodeView}
 use Rattle.tree_words.specs.Template.{view_by}
