@@ -1,38 +1,37 @@
 -- All values of a question's variables can be had.
-use Rattle.std.proofs.Common.{◌≡◌, ℕ, zero, suc, ◌+◌, ◌<◌, ◌≤◌, Bool, true, false, ◌&&◌, List, [], ◌∷◌, ◌++◌, map, length, length-append, refl, sym, ap, ◌∙◌, subst, arith, true≢false, inl, inr, ◌⊎◌, ⊎_elim}
-use Rattle.std.specs.Prelude.{Option, None, Some, is_some, nat_eq, slice_get, slice_index, IsSome, IsTrue, if◌then◌else◌}
+use Rattle.std.proofs.Common.{◌≡◌, ℕ, zero, suc, ◌<◌, Bool, true, false, List, [], ◌∷◌, ◌++◌, length, length-append, refl, sym, ap, ◌∙◌, subst, arith}
+use Rattle.std.specs.Prelude.{Option, None, Some, is_some, slice_get, slice_index, IsSome, IsTrue, if◌then◌else◌, nat_eq}
 use Rattle.std.specs.Option.{option_and_then}
-use Rattle.std.proofs.lemmas.Bool.{and_parts, and_from}
+use Rattle.std.proofs.lemmas.Bool.{and_parts}
 use Rattle.std.proofs.lemmas.Option.{slice_get_within}
 use Rattle.hy_val.specs.declared.sort.Sort.{Sort}
 use Rattle.hy_val.specs.declared.value.Value.{Value}
-use Rattle.hy_val.specs.Values.{at, is_on, has_sort}
+use Rattle.hy_val.specs.Values.{at, has_sort}
 use Rattle.hy_term.specs.Formula.{Formula as Terms}
 use Rattle.hy_term.specs.TermSorts.{sorts, sort_at}
-use Rattle.hy_term.specs.Meaning.{value, values, fits, Grows}
+use Rattle.hy_term.specs.Meaning.{value, fits, Grows}
 use Rattle.hy_term.specs.Laws.{EachValueHasItsSort}
 use Rattle.hy_term.specs.declared.node.TermNode.{TermNode}
 use Rattle.hy_term.specs.declared.node.TermNode.TheVariants.{Lit, ZeroMap, Variable, Unary, Binary, If, Select, Store}
 use Rattle.flat_prog.specs.Program.{FlatProgram, outs_at}
 use Rattle.flat_prog.specs.Local.{Track, Request, have_sorts, can_come_back}
-use Rattle.tree_terms.proofs.Growth.{sort_within, value_stays, grows_on}
+use Rattle.tree_terms.proofs.Growth.{sort_within, value_stays}
 use Rattle.tree_terms.proofs.Parts.{place_low, variable_sort}
 use Rattle.tree_terms.specs.declared.linked.Linked.{Linked}
 use Rattle.tree_terms.specs.declared.linked.Role.{Role}
 use Rattle.tree_terms.specs.declared.linked.Role.TheVariants.{Const, Global, In, Failed, Out, After, Own}
 use Rattle.tree_terms.specs.declared.linked.SiteTerms.{SiteTerms}
-use Rattle.tree_terms.specs.declared.linked.Source.{Source}
-use Rattle.tree_terms.specs.declared.linked.Source.TheVariants.{Given, Up, Down, Fresh}
+use Rattle.tree_terms.specs.declared.linked.Source.TheVariants.{Given, Up, Fresh}
 use Rattle.tree_terms.specs.declared.linked.Template.{Template as Formula}
-use Rattle.tree_terms.specs.Linked.{template_of, nodes_of, role_of, parent, kid, site_of, given, up, back, global, argument, by_role, source, IsVariable, IsLinked}
-use Rattle.tree_terms.specs.Copying.{IsCopying, AreCopied, IsFree, HaveSorts, Assigns as NumberAssigns}
+use Rattle.tree_terms.specs.Linked.{template_of, nodes_of, role_of, kid, given, up, back, global, argument, by_role, source, IsVariable, IsLinked}
+use Rattle.tree_terms.specs.Copying.{AreCopied, HaveSorts, Assigns as NumberAssigns}
 use Rattle.tree_terms.specs.Tables.{row}
 use Rattle.tree_words.specs.Compose.{Returned}
-use Rattle.tree_words.specs.Template.{Stands, Agrees, node_values, bool_value, called_with}
+use Rattle.tree_words.specs.Template.{Agrees, node_values, bool_value}
 use Rattle.tree_terms.specs.Standing.{all_at, AreOf}
-use Rattle.tree_words.specs.Linking.{walk, number_or, number, is_node_of, put_at, place_at, template_at, globals_of, args_of, proc_of, first_at, role_or, sites_by, GlobalIs, InIs, IsThere, IsFilled}
+use Rattle.tree_words.specs.Linking.{walk, number_or, number, is_node_of, put_at, template_at, globals_of, args_of, proc_of, first_at, role_or, sites_by, GlobalIs, InIs, IsThere, IsFilled}
 use Rattle.tree_words.specs.Stands.{Assigns, ins_at}
-use Rattle.tree_words.specs.Filling.{if_own, own_node, own_nodes, own_fits, comes_back, free_fits, request_fits, call_fits, SiteIsOf, IsBack, IsSigned}
+use Rattle.tree_words.specs.Filling.{if_own, own_node, own_nodes, own_fits, comes_back, free_fits, call_fits, IsBack, IsSigned, request_fits}
 use Rattle.tree_words.specs.Assigning.{ArePaths, IsBase}
 use Rattle.tree_words.proofs.Linking.{in_tree, stands_at, walk_snoc, some_number, got}
 use Rattle.tree_words.proofs.Filling.{bool_is, frees_by, variable_has}

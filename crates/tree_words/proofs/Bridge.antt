@@ -1,6 +1,6 @@
 -- Terms into which the formulas of the nodes are copied say what the formulas say, put together.
-use Rattle.std.proofs.Common.{◌≡◌, ℕ, zero, suc, ◌<◌, Bool, true, false, List, [], ◌∷◌, ◌++◌, map, length, refl, sym, ap, ◌∙◌, subst, arith}
-use Rattle.std.specs.Prelude.{slice_get, slice_index, Option, None, Some, IsTrue}
+use Rattle.std.proofs.Common.{◌≡◌, ℕ, zero, suc, ◌<◌, Bool, true, false, List, [], ◌∷◌, ◌++◌, map, length, refl, sym, ap, ◌∙◌, arith}
+use Rattle.std.specs.Prelude.{slice_get, slice_index, Option, IsTrue}
 use Rattle.hy_val.specs.declared.value.Value.{Value}
 use Rattle.hy_val.specs.Values.{at, is_on}
 use Rattle.hy_term.specs.Meaning.{value, values, fits}
@@ -10,8 +10,7 @@ use Rattle.flat_prog.specs.Local.{Request}
 use Rattle.tree_terms.specs.declared.linked.Role.{Role}
 use Rattle.tree_terms.specs.declared.linked.Role.TheVariants.{Const, Global, In, Failed, Out, After, Own}
 use Rattle.tree_terms.specs.declared.linked.SiteTerms.{SiteTerms}
-use Rattle.tree_words.specs.View.{SiteView, NodeView}
-use Rattle.tree_words.specs.Compose.{Returned, Viewer, ret_at, ret_of, Composed}
+use Rattle.tree_words.specs.Compose.{Returned, ret_at, ret_of, Composed}
 use Rattle.tree_words.specs.Template.{Template, site_by, view_by, view_of, Stands, bool_value, by_role, viewer_of, Within, IsComposite, PutIs, Agrees, node_values, called_with}
 use Rattle.tree_terms.specs.Standing.{all_at}
 

@@ -1,5 +1,5 @@
 -- A run has choices of its nodes and of what comes back at open sites, under which the views say it, however they are put together.
-use Rattle.std.proofs.Common.{◌≡◌, ℕ, ◌+◌, Bool, true, false, not, ◌||◌, List, [], ◌∷◌, ◌++◌, map, refl, sym, ap, ◌∙◌, subst, append_assoc, append-nil}
+use Rattle.std.proofs.Common.{◌≡◌, ℕ, Bool, true, false, not, ◌||◌, List, [], ◌∷◌, ◌++◌, map, refl, sym, ap, ◌∙◌, subst, append_assoc, append-nil}
 use Rattle.std.specs.Prelude.{nat_eq, slice_get, Option, Some, cond}
 use Rattle.std.proofs.lemmas.Bool.{and_parts, or_left, or_right, both_ways, not-true, eqb-true, eq-eqb, false_from_ne_true}
 use Rattle.hy_val.specs.declared.value.Value.{Value}
@@ -10,7 +10,6 @@ use Rattle.flat_prog.specs.Trees.{Run, Below, node, none, inner, free, track_of,
 use Rattle.flat_prog.specs.Sites.{sites_passed}
 use Rattle.call_tree.specs.Questions.{stands, stand_below}
 use Rattle.flat_prog.specs.Changes.{AllKeep}
-use Rattle.tree_words.specs.Question.{goes}
 use Rattle.tree_words.specs.View.{SiteView, NodeView}
 use Rattle.tree_words.specs.Compose.{Returned, Viewer, RightAt, Right, Goes, Bits, Plan, SitesAre, FreeSay, ret_at, ret_of, Composed, AllSay, BelowSay, Parts}
 use Rattle.flat_prog.specs.Once.{has_number, numbers_differ}

@@ -1,5 +1,5 @@
 -- A member has choices of its nodes under which the views of all nodes say it and meet the question.
-use Rattle.std.proofs.Common.{◌≡◌, ℕ, ◌+◌, Bool, true, false, ◌||◌, List, [], ◌∷◌, ◌++◌, refl, sym, ap, ◌∙◌, subst, true≢false, inl, inr, ◌⊎◌, arith}
+use Rattle.std.proofs.Common.{◌≡◌, ℕ, Bool, true, false, ◌||◌, List, [], ◌∷◌, ◌++◌, refl, sym, ap, ◌∙◌, subst, true≢false, inl, inr, ◌⊎◌, arith}
 use Rattle.std.specs.Prelude.{slice_get, Some}
 use Rattle.hy_val.specs.declared.value.Value.{Value}
 use Rattle.flat_prog.specs.Program.{FlatProgram}

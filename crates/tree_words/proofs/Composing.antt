@@ -1,16 +1,13 @@
 -- Formulas that are put together meet the question where the root says so.
-use Rattle.std.proofs.Common.{◌≡◌, ℕ, ◌<◌, Bool, true, false, not, ◌&&◌, ◌||◌, List, [], ◌∷◌, ◌++◌, refl, sym, ap, ◌∙◌, subst, true≢false, inl, inr, ◌⊎◌, ⊎_elim}
-use Rattle.std.specs.Prelude.{IsTrue}
-use Rattle.std.proofs.lemmas.Bool.{and_parts, and_from, or_cases, both_ways, cases_Bool}
+use Rattle.std.proofs.Common.{◌≡◌, ℕ, Bool, true, false, not, List, [], ◌∷◌, ◌++◌, sym, ap, ◌∙◌, subst, ⊎_elim}
+use Rattle.std.proofs.lemmas.Bool.{or_cases, both_ways, cases_Bool}
 use Rattle.hy_val.specs.declared.value.Value.{Value}
-use Rattle.flat_prog.specs.declared.proc.FlatProc.{FlatProc}
 use Rattle.flat_prog.specs.Program.{FlatProgram}
 use Rattle.flat_prog.specs.Changes.{MayBe, Keeps}
-use Rattle.flat_prog.specs.Local.{Request, Result, Ended}
+use Rattle.flat_prog.specs.Local.{Request, Ended}
 use Rattle.flat_prog.specs.Laws.{AllRunsKeep}
-use Rattle.flat_prog.specs.Trees.{Run, is_whole}
+use Rattle.flat_prog.specs.Trees.{is_whole}
 use Rattle.call_tree.specs.declared.piece.Decision2.{Decision2}
-use Rattle.call_tree.specs.Pieces.{meets}
 use Rattle.tree_words.specs.View.{SiteView, NodeView, IsSound, over_in}
 use Rattle.tree_words.specs.Built.{built, root_run}
 use Rattle.tree_words.specs.Question.{goes, Tied, Met, Starts, IsMember, named}

@@ -1,17 +1,17 @@
 -- Values of the variables of a question have their sorts.
-use Rattle.std.proofs.Common.{◌≡◌, ℕ, zero, suc, ◌+◌, ◌<◌, ◌≤◌, Bool, true, false, ◌&&◌, List, [], ◌∷◌, ◌++◌, map, length, refl, sym, ap, ◌∙◌, subst, arith, true≢false, inl, inr, ◌⊎◌, ⊎_elim}
-use Rattle.std.specs.Prelude.{Option, None, Some, is_some, nat_eq, slice_get, slice_index, IsSome, IsTrue, if◌then◌else◌}
-use Rattle.std.proofs.lemmas.Bool.{and_parts, and_from}
+use Rattle.std.proofs.Common.{◌≡◌, ℕ, zero, suc, ◌<◌, Bool, true, false, List, [], ◌∷◌, ◌++◌, map, length, refl, sym, ap, ◌∙◌, subst, arith}
+use Rattle.std.specs.Prelude.{Option, None, Some, slice_get, slice_index, IsSome, IsTrue, if◌then◌else◌, nat_eq}
+use Rattle.std.proofs.lemmas.Bool.{and_from}
 use Rattle.std.proofs.lemmas.Option.{slice_get_within}
 use Rattle.hy_val.specs.declared.sort.Sort.{Sort}
-use Rattle.hy_val.specs.declared.sort.ScalarKind.TheVariants.{Bool as BoolSort, Bv as BvSort}
-use Rattle.hy_val.specs.declared.sort.SortKind.TheVariants.{Scalar as ScalarSort, Map as MapSort}
+use Rattle.hy_val.specs.declared.sort.ScalarKind.TheVariants.{Bool as BoolSort}
+use Rattle.hy_val.specs.declared.sort.SortKind.TheVariants.{Scalar as ScalarSort}
 use Rattle.hy_val.specs.declared.atom.AtomKind.TheVariants.{Bool as BoolAtom, Bv as BvAtom}
 use Rattle.hy_val.specs.declared.value.Value.{Value}
 use Rattle.hy_val.specs.declared.value.Value.TheVariants.{Atom as AtomValue, Map as MapValue}
 use Rattle.hy_val.specs.Values.{at, is_on, has_sort}
 use Rattle.hy_term.specs.Formula.{Formula as Terms}
-use Rattle.hy_term.specs.TermSorts.{sorts, sort_at}
+use Rattle.hy_term.specs.TermSorts.{sorts}
 use Rattle.hy_term.specs.Meaning.{value, values, fits, node_fits, Grows}
 use Rattle.hy_term.specs.Laws.{EachValueHasItsSort}
 use Rattle.hy_term.specs.declared.node.TermNode.{TermNode}
@@ -19,7 +19,7 @@ use Rattle.hy_term.specs.declared.node.TermNode.TheVariants.{Lit, ZeroMap, Varia
 use Rattle.hy_term.proofs.Growing.{node_values as value_of_node}
 use Rattle.hy_term.proofs.Numbering.{same_number}
 use Rattle.flat_prog.specs.Program.{FlatProgram, outs_at}
-use Rattle.flat_prog.specs.Local.{Track, Request, have_sorts, can_come_back}
+use Rattle.flat_prog.specs.Local.{Track, have_sorts}
 use Rattle.tree_terms.specs.Copies.{IsPart}
 use Rattle.tree_terms.proofs.Growth.{are_later, sort_within, sort_stays, grows_on}
 use Rattle.tree_terms.proofs.Parts.{place_low, variable_sort}
@@ -28,16 +28,15 @@ use Rattle.tree_terms.specs.declared.linked.Role.{Role}
 use Rattle.tree_terms.specs.declared.linked.Role.TheVariants.{Const, Global, In, Failed, Out, After, Own}
 use Rattle.tree_terms.specs.declared.linked.SiteTerms.{SiteTerms}
 use Rattle.tree_terms.specs.declared.linked.Template.{Template as Formula}
-use Rattle.tree_terms.specs.Linked.{template_of, nodes_of, role_of, parent, kid, site_of, IsVariable, IsLinked}
-use Rattle.tree_terms.specs.Copying.{IsCopying, AreCopied}
+use Rattle.tree_terms.specs.Linked.{template_of, nodes_of, role_of, parent, IsVariable, IsLinked}
+use Rattle.tree_terms.specs.Copying.{AreCopied}
 use Rattle.tree_terms.specs.Tables.{row}
-use Rattle.tree_words.specs.View.{NodeView}
 use Rattle.tree_words.specs.Compose.{Returned, ret_at, ret_of}
-use Rattle.tree_words.specs.Template.{Stands, Agrees, node_values, bool_value, called_with, view_of}
+use Rattle.tree_words.specs.Template.{Agrees, node_values, bool_value, called_with}
 use Rattle.tree_terms.specs.Standing.{all_at, AreOf}
-use Rattle.tree_words.specs.Linking.{number, is_node_of, put_at, place_at, template_at, globals_of, args_of, proc_of, first_at, role_or, sites_by, outs_by, globals_by, before_by, args_by, proc_by, IsFilled}
+use Rattle.tree_words.specs.Linking.{number, is_node_of, put_at, template_at, globals_of, args_of, proc_of, first_at, role_or, sites_by, outs_by, globals_by, before_by, args_by, proc_by, IsFilled}
 use Rattle.tree_words.specs.Stands.{ins_at, args_fit, SortsHold, views_at}
-use Rattle.tree_words.specs.Filling.{if_own, own_node, own_nodes, own_fits, comes_back, free_fits, request_fits, call_fits, back_by, back_of, SiteIsOf, IsBack, IsSigned}
+use Rattle.tree_words.specs.Filling.{if_own, own_node, own_nodes, own_fits, comes_back, free_fits, call_fits, back_by, back_of, IsBack, IsSigned, request_fits}
 use Rattle.tree_words.proofs.Bridge.{at_map}
 use Rattle.tree_words.proofs.Linking.{in_tree, kid_is, stands_at}
 

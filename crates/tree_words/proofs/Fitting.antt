@@ -1,5 +1,5 @@
 -- The rules are over bools.
-use Rattle.std.proofs.Common.{◌≡◌, ℕ, zero, suc, ◌+◌, ◌<◌, Bool, true, false, List, [], ◌∷◌, ◌++◌, map, length, refl, sym, ap, ◌∙◌, subst, arith}
+use Rattle.std.proofs.Common.{◌≡◌, ℕ, zero, suc, ◌<◌, Bool, true, false, List, [], ◌∷◌, ◌++◌, map, length, refl, ◌∙◌, subst, arith}
 use Rattle.std.specs.Prelude.{Option, None, Some, slice_get, slice_index}
 use Rattle.hy_term.specs.declared.node.TermNode.{TermNode}
 use Rattle.call_tree.specs.declared.piece.Decision2.{Decision2}
@@ -8,12 +8,11 @@ use Rattle.tree_terms.specs.declared.linked.Linked.{Linked}
 use Rattle.tree_terms.specs.declared.linked.SiteTerms.{SiteTerms}
 use Rattle.tree_terms.specs.Linked.{template_of, nodes_of, kid}
 use Rattle.tree_terms.specs.Copying.{AreCopied}
-use Rattle.tree_terms.specs.Tables.{row}
 use Rattle.tree_terms.specs.declared.rules.Rule.{Rule}
 use Rattle.tree_terms.specs.Rules.{IsBool, RuleFits, RulesFit}
 use Rattle.tree_words.specs.Linking.{ends_by, fails_by, sites_by}
 use Rattle.tree_words.specs.Rooting.{term, BitsAreThere}
-use Rattle.tree_words.specs.Asking.{over, cut_by, cut, cuts_to, rules_to, decided, rules_of}
+use Rattle.tree_words.specs.Asking.{over, cut_by, cut, cuts_to, rules_to, decided}
 use Rattle.tree_words.specs.RulesSaid.{BitsAreBools, RulesAreFit}
 
 fit_both : (into : List TermNode) (xs ys : List Rule) → RulesFit into xs → RulesFit into ys → RulesFit into (xs ++ ys)

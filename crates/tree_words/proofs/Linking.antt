@@ -1,5 +1,5 @@
 -- The copies of a tree's formulas are put together.
-use Rattle.std.proofs.Common.{◌≡◌, ℕ, zero, suc, ◌+◌, ◌<◌, ◌≤◌, Bool, true, false, ◌||◌, List, [], ◌∷◌, ◌++◌, map, length, refl, sym, ap, ◌∙◌, subst, arith, true≢false, inl, inr, ◌⊎◌, ⊎_elim}
+use Rattle.std.proofs.Common.{◌≡◌, ℕ, zero, suc, ◌<◌, Bool, true, false, ◌||◌, List, [], ◌∷◌, ◌++◌, map, length, refl, sym, ap, ◌∙◌, subst, arith, true≢false, inl, inr, ◌⊎◌, ⊎_elim}
 use Rattle.std.specs.Prelude.{Option, None, Some, is_some, slice_get, slice_index, nat_eq, nat_lt, IsSome, IsTrue, if◌then◌else◌}
 use Rattle.std.specs.Option.{option_and_then}
 use Rattle.std.proofs.lemmas.Option.{slice_get_within}
@@ -17,14 +17,12 @@ use Rattle.tree_terms.specs.declared.linked.Linked.{Linked}
 use Rattle.tree_terms.specs.declared.linked.Role.{Role}
 use Rattle.tree_terms.specs.declared.linked.Role.TheVariants.{Const, Global, In, Failed, Out, After, Own}
 use Rattle.tree_terms.specs.declared.linked.SiteTerms.{SiteTerms}
-use Rattle.tree_terms.specs.declared.linked.Source.{Source}
-use Rattle.tree_terms.specs.declared.linked.Source.TheVariants.{Given, Up, Down, Fresh}
 use Rattle.tree_terms.specs.declared.linked.Template.{Template as Formula}
-use Rattle.tree_terms.specs.Linked.{template_of, nodes_by, nodes_of, parent, kid, role_of, site_of, given, up, down, back, global, argument, by_role, source, IsVariable, IsLinked}
-use Rattle.tree_terms.specs.Copying.{IsCopying, AreCopied, PutIs as NumberPutIs}
+use Rattle.tree_terms.specs.Linked.{template_of, nodes_of, parent, kid, role_of, site_of, given, up, down, back, global, argument, by_role}
+use Rattle.tree_terms.specs.Copying.{AreCopied, PutIs as NumberPutIs}
 use Rattle.tree_terms.specs.Tables.{row}
-use Rattle.tree_words.specs.Template.{Template, TemplateFits, IsComposite, PutIs, Stands}
-use Rattle.tree_words.specs.Linking.{walk, number_or, is_node_of, number, role_or, sites_by, fails_by, outs_by, globals_by, formula, template_at, place_at, first_at, put_at, before_by, args_by, proc_by, globals_of, args_of, proc_of, GlobalIs, InIs, IsThere, IsFilled}
+use Rattle.tree_words.specs.Template.{IsComposite, PutIs, Stands}
+use Rattle.tree_words.specs.Linking.{walk, number_or, is_node_of, number, role_or, fails_by, outs_by, globals_by, template_at, place_at, first_at, put_at, before_by, args_by, proc_by, globals_of, args_of, proc_of, GlobalIs, InIs, IsThere, IsFilled}
 
 -- ---- a variable that stands in nodes has a node
 

@@ -1,7 +1,7 @@
 -- Lists of lists, sites, and what a loop has of them so far.
 use Rattle.std.proofs.Common.{◌≡◌, ℕ, zero, suc, ◌+◌, ◌<◌, ◌≤◌, List, [], ◌∷◌, ◌++◌, length, take, refl, sym, ap, ◌∙◌, subst, arith, append_assoc, append-nil, length-append, slice_index_or, map}
 use Rattle.std.proofs.lemmas.List.{take_more}
-use Rattle.std.specs.Prelude.{Option, None, Some, slice_get, slice_index, Result, IfOk, Bool, true, false, if◌then◌else◌}
+use Rattle.std.specs.Prelude.{None, Some, slice_get, slice_index, Result, IfOk, Bool, true, false, if◌then◌else◌}
 use Rattle.std.specs.declared.alloc.AllocError.{AllocError}
 use Rattle.hy_val.specs.declared.value.Value.{Value}
 use Rattle.hy_val.specs.Values.{at}

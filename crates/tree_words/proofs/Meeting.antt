@@ -1,5 +1,5 @@
 -- What meets a piece, where the same paths are reached.
-use Rattle.std.proofs.Common.{◌≡◌, ℕ, Bool, true, not, ◌&&◌, List, [], ◌∷◌, refl, ap, ◌∙◌}
+use Rattle.std.proofs.Common.{◌≡◌, ℕ, Bool, true, not, List, [], ◌∷◌, refl, ap, ◌∙◌}
 use Rattle.std.proofs.lemmas.Bool.{and_parts, and_from}
 use Rattle.call_tree.specs.declared.piece.Decision2.{Decision2}
 use Rattle.call_tree.specs.declared.piece.Decision2.TheVariants.{Must, Avoid}

@@ -1,6 +1,6 @@
 -- The nodes that are read are those of a member.
-use Rattle.std.proofs.Common.{◌≡◌, ℕ, zero, suc, ◌<◌, Bool, true, false, not, ◌&&◌, List, [], ◌∷◌, ◌++◌, length, refl, sym, ap, ◌∙◌, subst, ⊎_elim}
-use Rattle.std.specs.Prelude.{Option, None, Some, is_some, slice_get, slice_index, IsTrue}
+use Rattle.std.proofs.Common.{◌≡◌, ℕ, Bool, true, false, not, ◌&&◌, List, [], ◌∷◌, ◌++◌, refl, sym, ap, ◌∙◌, subst}
+use Rattle.std.specs.Prelude.{Option, Some, is_some, IsTrue}
 use Rattle.std.specs.Option.{option_and_then}
 use Rattle.hy_val.specs.declared.value.Value.{Value}
 use Rattle.hy_term.specs.Formula.{Formula as Terms}
@@ -10,22 +10,19 @@ use Rattle.flat_prog.specs.Program.{FlatProgram}
 use Rattle.flat_prog.specs.Changes.{MayBe}
 use Rattle.flat_prog.specs.Trees.{Run, is_whole}
 use Rattle.flat_prog.specs.Laws.{NodesAreRuns}
-use Rattle.flat_prog.specs.Nodes.{run_of}
 use Rattle.call_tree.specs.declared.piece.Decision2.{Decision2}
 use Rattle.tree_terms.specs.declared.linked.Linked.{Linked}
-use Rattle.tree_terms.specs.declared.linked.SiteTerms.{SiteTerms}
-use Rattle.tree_terms.specs.Linked.{template_of, kid}
+use Rattle.tree_terms.specs.Linked.{kid}
 use Rattle.tree_terms.specs.Rules.{bit}
 use Rattle.tree_words.specs.Members.{MembersAreRead}
 use Rattle.tree_words.specs.Put.{IsMade, MadeAreQuestions}
 use Rattle.tree_words.specs.Question.{IsMember}
-use Rattle.tree_words.specs.Whole.{IsTree}
-use Rattle.tree_words.specs.Linking.{walk, number, number_or, is_node_of, put_at, place_at, template_at, globals_of, args_of, proc_of, sites_by}
-use Rattle.tree_words.specs.Rooting.{term, RulesSay}
+use Rattle.tree_words.specs.Linking.{walk, number, number_or, is_node_of, put_at, place_at, template_at, globals_of, args_of, proc_of}
+use Rattle.tree_words.specs.Rooting.{RulesSay}
 use Rattle.tree_words.specs.Filling.{own_fits, free_fits, call_fits, back_of}
 use Rattle.tree_words.proofs.Linking.{walk_snoc}
 use Rattle.tree_words.specs.Reading.{track_by, free_by, nodes_read}
-use Rattle.tree_words.specs.NodesRead.{NodesAreMembers, NoneOpen, IsRead, AreMember}
+use Rattle.tree_words.specs.NodesRead.{NodesAreMembers, NoneOpen, IsRead}
 use Rattle.tree_words.proofs.RunRead.{nodes_are_read}
 
 and_not : (b : Bool) → (b && not true) ≡ false

@@ -1,18 +1,17 @@
 -- What a run passes, in order.
-use Rattle.std.proofs.Common.{◌≡◌, ℕ, Bool, true, false, ◌||◌, List, [], ◌∷◌, ◌++◌, map, refl, sym, ap, ◌∙◌, subst}
-use Rattle.std.specs.Prelude.{Option, slice_get}
+use Rattle.std.proofs.Common.{◌≡◌, ℕ, Bool, true, false, ◌||◌, List, [], ◌∷◌, ◌++◌, map, refl, sym, ap, ◌∙◌}
+use Rattle.std.specs.Prelude.{Option}
 use Rattle.hy_val.specs.declared.value.Value.{Value}
 use Rattle.flat_prog.specs.Program.{FlatProgram, blocks_of}
 use Rattle.flat_prog.specs.Local.{Request, Result, edges_of}
 use Rattle.flat_prog.specs.Sites.{sites_passed}
 use Rattle.flat_prog.specs.declared.proc.FlatProc.{FlatProc}
 use Rattle.tree_terms.specs.declared.linked.EdgeTerms.{EdgeTerms}
-use Rattle.tree_terms.specs.declared.linked.TrackTerms.{TrackTerms}
-use Rattle.tree_words.specs.View.{NodeView, IsSound, HasRun}
+use Rattle.tree_words.specs.View.{NodeView, HasRun}
 use Rattle.flat_prog.specs.Once.{has_number}
 use Rattle.tree_words.specs.Built.{on_sites}
 use Rattle.tree_words.proofs.Sound.{on_passed}
-use Rattle.tree_words.specs.Reading.{passed_edges, track_with}
+use Rattle.tree_words.specs.Reading.{passed_edges}
 use Rattle.tree_words.specs.Passing.{sites_by_track, InOrder, RunsAreInOrder, Chained, EdgesAreTrue}
 
 of_run : (flat : FlatProgram) (consts : List Value) (call : Request) (v : NodeView) (broken : ℕ → ℕ × ℕ) (result : Result) → HasRun flat consts call v broken result → InOrder flat v

@@ -5,7 +5,7 @@ use Rattle.flat_prog.specs.Changes.{MayBe}
 use Rattle.flat_prog.specs.Trees.{Run}
 use Rattle.call_tree.specs.declared.piece.Decision2.{Decision2}
 use Rattle.call_tree.specs.Trees.{has_path, open_of}
-use Rattle.call_tree.specs.Pieces.{meets, reaches}
+use Rattle.call_tree.specs.Pieces.{reaches}
 use Rattle.call_tree.specs.Questions.{IsOver}
 use Rattle.call_tree.specs.Descent.{goes_down, DescentLaw}
 use Rattle.tree_words.specs.Question.{IsMember}

@@ -1,10 +1,10 @@
 -- A mark more.
-use Rattle.std.proofs.Common.{◌≡◌, ℕ, zero, suc, ◌+◌, ◌<◌, Bool, true, false, ◌&&◌, List, [], ◌∷◌, ◌++◌, length, length-append, refl, sym, ap, ◌∙◌, subst, arith, ⊎_elim, slice_index_or}
+use Rattle.std.proofs.Common.{◌≡◌, ℕ, ◌+◌, ◌<◌, Bool, true, false, ◌&&◌, List, [], ◌∷◌, ◌++◌, length, length-append, refl, sym, ap, ◌∙◌, subst, arith, ⊎_elim, slice_index_or}
 use Rattle.std.specs.Prelude.{Some, slice_get, slice_index, IsSome, IsTrue, if◌then◌else◌}
 use Rattle.std.proofs.lemmas.Option.{slice_get-get_or}
 use Rattle.hy_val.specs.declared.value.Value.{Value}
 use Rattle.hy_term.specs.TermSorts.{sorts}
-use Rattle.hy_term.specs.Meaning.{fits, Grows}
+use Rattle.hy_term.specs.Meaning.{fits}
 use Rattle.hy_term.specs.declared.node.TermNode.{TermNode}
 use Rattle.tree_terms.proofs.Growth.{grows_on, grows_not, fits_before}
 use Rattle.tree_terms.proofs.Parts.{index_left, index_last, lt_or_eq}

@@ -1,6 +1,6 @@
 -- Terms that are made so are a question.
-use Rattle.std.proofs.Common.{◌≡◌, ℕ, Bool, true, false, not, ◌&&◌, List, [], ◌∷◌, ◌++◌, length, refl, sym, ap, ◌∙◌, subst}
-use Rattle.std.specs.Prelude.{Option, IsTrue, nat_eq}
+use Rattle.std.proofs.Common.{◌≡◌, ℕ, Bool, true, List, refl, ap, ◌∙◌}
+use Rattle.std.specs.Prelude.{Option, nat_eq}
 use Rattle.std.proofs.lemmas.Bool.{and_from}
 use Rattle.hy_val.specs.declared.value.Value.{Value}
 use Rattle.hy_term.specs.Formula.{Formula as Terms}
@@ -8,7 +8,7 @@ use Rattle.hy_term.specs.Laws.{EachValueHasItsSort}
 use Rattle.hy_term.specs.declared.node.TermNode.{TermNode}
 use Rattle.hy_term.proofs.Numbering.{same_number}
 use Rattle.flat_prog.specs.Program.{FlatProgram}
-use Rattle.flat_prog.specs.Local.{Track, Request, have_sorts}
+use Rattle.flat_prog.specs.Local.{Track, have_sorts}
 use Rattle.flat_prog.specs.Changes.{MayBe}
 use Rattle.call_tree.specs.declared.piece.Decision2.{Decision2}
 use Rattle.tree_terms.proofs.Growth.{grows_not}

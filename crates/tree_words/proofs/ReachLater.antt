@@ -1,15 +1,15 @@
 -- Bools of reached nodes stay where terms grow.
 use Rattle.std.proofs.Common.{◌≡◌, ℕ, zero, suc, ◌<◌, Bool, ◌&&◌, List, length, refl, sym, ap, ◌∙◌, arith}
-use Rattle.std.specs.Prelude.{slice_index, IsSome, IsTrue}
+use Rattle.std.specs.Prelude.{slice_index, IsSome}
 use Rattle.hy_val.specs.declared.value.Value.{Value}
 use Rattle.hy_term.specs.TermSorts.{sorts}
-use Rattle.hy_term.specs.Meaning.{fits, Grows}
+use Rattle.hy_term.specs.Meaning.{Grows}
 use Rattle.hy_term.specs.declared.node.TermNode.{TermNode}
 use Rattle.tree_terms.proofs.Growth.{grows_on, fits_before}
 use Rattle.tree_terms.specs.declared.linked.Linked.{Linked}
 use Rattle.tree_terms.specs.Linked.{parent}
 use Rattle.tree_terms.specs.Rules.{IsBool, bit}
-use Rattle.tree_terms.specs.Reach.{site_term, reach_by, SitesFit, ReachTo}
+use Rattle.tree_terms.specs.Reach.{site_term, reach_by, SitesFit}
 use Rattle.tree_terms.proofs.Ruling.{bool_stays, bit_stays}
 use Rattle.tree_words.specs.Rooted.{ReachesStay}
 

@@ -1,6 +1,6 @@
 -- The root that is made is what a question asks for.
-use Rattle.std.proofs.Common.{◌≡◌, ℕ, zero, suc, ◌+◌, ◌<◌, Bool, true, false, ◌&&◌, List, [], ◌∷◌, length, refl, sym, ap, ◌∙◌, subst, arith}
-use Rattle.std.specs.Prelude.{Option, Some, slice_get, slice_index, IsSome, IsTrue, if◌then◌else◌}
+use Rattle.std.proofs.Common.{◌≡◌, ℕ, suc, Bool, true, false, ◌&&◌, List, [], ◌∷◌, refl, sym, ap, ◌∙◌, subst}
+use Rattle.std.specs.Prelude.{Option, IsSome, if◌then◌else◌}
 use Rattle.std.proofs.lemmas.Bool.{and_parts, and_from}
 use Rattle.hy_val.specs.declared.value.Value.{Value}
 use Rattle.hy_val.specs.declared.atom.Atom.{Atom}
@@ -8,28 +8,24 @@ use Rattle.hy_val.specs.declared.atom.AtomKind.TheVariants.{Bool as BoolAtom}
 use Rattle.hy_val.specs.Values.{is_on}
 use Rattle.hy_term.specs.declared.node.TermNode.TheVariants.{Lit}
 use Rattle.tree_terms.specs.Copies.{IsPlaced}
-use Rattle.hy_term.specs.Formula.{Formula as Terms}
 use Rattle.std.specs.Option.{option_and_then}
 use Rattle.hy_val.specs.declared.sort.Sort.{Sort}
 use Rattle.hy_term.specs.TermSorts.{sorts, sort_of_node}
-use Rattle.hy_term.specs.Meaning.{fits, holds, Grows}
+use Rattle.hy_term.specs.Meaning.{Grows}
 use Rattle.hy_term.specs.declared.node.TermNode.{TermNode}
-use Rattle.flat_prog.specs.Program.{FlatProgram}
-use Rattle.flat_prog.specs.Runs.{are_allowed}
 use Rattle.call_tree.specs.declared.piece.Decision2.{Decision2}
 use Rattle.tree_terms.proofs.Growth.{grows_on, fits_before, sorts_are}
 use Rattle.tree_terms.specs.declared.linked.Linked.{Linked}
 use Rattle.tree_terms.specs.Linked.{template_of}
 use Rattle.tree_terms.specs.declared.rules.Rule.{Rule}
-use Rattle.tree_terms.specs.Rules.{IsBool, IsBit, IsFalse, RuleFits, RulesFit, bit, rule_holds, rules_hold}
+use Rattle.tree_terms.specs.Rules.{IsBool, IsBit, IsFalse, RulesFit, bit, rule_holds, rules_hold}
 use Rattle.tree_terms.specs.Reach.{IsAlways}
-use Rattle.tree_terms.proofs.Ruling.{bool_stays, bit_stays, rule_stays, fits_later}
+use Rattle.tree_terms.proofs.Ruling.{bit_stays, rule_stays, fits_later}
 use Rattle.tree_words.specs.Linking.{fails_by}
-use Rattle.tree_words.specs.Rooting.{term, RulesSay}
-use Rattle.tree_terms.specs.Standing.{all_at}
+use Rattle.tree_words.specs.Rooting.{term}
 use Rattle.tree_words.specs.Asking.{rules_of}
 use Rattle.tree_words.specs.RulesSaid.{numbered}
-use Rattle.tree_words.specs.Rooted.{AreReady, IsRoot, RootsAreMade}
+use Rattle.tree_words.specs.Rooted.{AreReady, RootsAreMade}
 use Rattle.tree_words.proofs.Fitting.{copy_bool, rules_are_fit}
 use Rattle.tree_words.proofs.RuleSaying.{rules_are_said}
 

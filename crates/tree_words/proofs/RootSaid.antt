@@ -1,13 +1,13 @@
 -- The root says what a member must meet.
-use Rattle.std.proofs.Common.{◌≡◌, ℕ, zero, suc, ◌+◌, ◌<◌, ◌≤◌, Bool, true, false, not, ◌&&◌, ◌||◌, List, [], ◌∷◌, ◌++◌, map, length, length-append, append_assoc, append-nil, refl, sym, ap, ◌∙◌, subst, arith, true≢false, inl, inr, ◌⊎◌, ⊎_elim}
+use Rattle.std.proofs.Common.{◌≡◌, ℕ, zero, suc, ◌<◌, Bool, true, false, not, ◌&&◌, ◌||◌, List, [], ◌∷◌, ◌++◌, length, length-append, append_assoc, append-nil, refl, sym, ap, ◌∙◌, subst, arith, true≢false, inl, inr, ⊎_elim}
 use Rattle.std.specs.Prelude.{◌↔◌, Option, None, Some, is_some, slice_get, slice_index, IsSome, IsTrue}
 use Rattle.std.specs.Option.{option_and_then}
-use Rattle.std.proofs.lemmas.Bool.{and_parts, and_from, both_ways, cases_Bool}
+use Rattle.std.proofs.lemmas.Bool.{and_parts, both_ways, cases_Bool}
 use Rattle.hy_val.specs.declared.value.Value.{Value}
 use Rattle.hy_val.specs.Values.{at, is_on}
 use Rattle.hy_term.specs.Formula.{Formula as Terms}
 use Rattle.hy_term.specs.TermSorts.{sorts}
-use Rattle.hy_term.specs.Meaning.{value, values, fits, holds, Grows}
+use Rattle.hy_term.specs.Meaning.{values, fits, holds, Grows}
 use Rattle.hy_term.specs.Variables.{below}
 use Rattle.hy_term.specs.declared.node.TermNode.{TermNode}
 use Rattle.flat_prog.specs.Program.{FlatProgram}
@@ -15,23 +15,23 @@ use Rattle.flat_prog.specs.Local.{Track}
 use Rattle.flat_prog.specs.Runs.{are_allowed}
 use Rattle.call_tree.specs.declared.piece.Decision2.{Decision2}
 use Rattle.call_tree.specs.declared.piece.Decision2.TheVariants.{Must, Avoid}
-use Rattle.call_tree.specs.Pieces.{meets, is_kept}
+use Rattle.call_tree.specs.Pieces.{meets}
 use Rattle.tree_terms.proofs.Growth.{value_stays, grows_on}
 use Rattle.tree_terms.proofs.Parts.{place_low, part_stays}
 use Rattle.tree_terms.specs.declared.linked.Linked.{Linked}
 use Rattle.tree_terms.specs.declared.linked.SiteTerms.{SiteTerms}
 use Rattle.tree_terms.specs.declared.linked.Template.{Template as Formula}
 use Rattle.tree_terms.specs.Linked.{template_of, nodes_of, kid, parent, site_of, node_by, IsLinked}
-use Rattle.tree_terms.specs.Copying.{IsCopying, AreCopied, Assigns as NumberAssigns}
+use Rattle.tree_terms.specs.Copying.{AreCopied}
 use Rattle.tree_terms.specs.Tables.{row}
 use Rattle.tree_terms.specs.Rules.{bit}
 use Rattle.tree_terms.specs.Reach.{ReachTo, reach_by}
-use Rattle.tree_words.specs.View.{SiteView, NodeView}
+use Rattle.tree_words.specs.View.{NodeView}
 use Rattle.tree_words.specs.Question.{named, goes}
 use Rattle.tree_words.specs.Template.{node_values, site_by}
 use Rattle.tree_terms.specs.Standing.{all_at}
 use Rattle.tree_words.specs.Whole.{IsTree, RootSays}
-use Rattle.tree_words.specs.Linking.{walk, number, number_or, is_node_of, put_at, place_at, template_at, sites_by, ends_by, fails_by, IsFilled}
+use Rattle.tree_words.specs.Linking.{walk, number, number_or, is_node_of, put_at, template_at, sites_by, ends_by, fails_by, IsFilled}
 use Rattle.tree_words.specs.Stands.{views_at}
 use Rattle.tree_words.specs.Assigning.{ArePaths}
 use Rattle.tree_words.specs.Rooting.{term, IsReach, RulesSay, BitsAreThere}

@@ -1,6 +1,6 @@
 -- The rules say what the root is to say.
-use Rattle.std.proofs.Common.{◌≡◌, ℕ, zero, suc, ◌+◌, ◌<◌, ◌≤◌, Bool, true, false, not, ◌&&◌, ◌||◌, List, [], ◌∷◌, ◌++◌, map, length, refl, sym, ap, ◌∙◌, subst, arith, true≢false, ◌⊎◌, ⊎_elim}
-use Rattle.std.specs.Prelude.{◌↔◌, Option, None, Some, slice_get, slice_index, if◌then◌else◌}
+use Rattle.std.proofs.Common.{◌≡◌, ℕ, zero, suc, ◌<◌, Bool, true, false, not, ◌&&◌, ◌||◌, List, [], ◌∷◌, ◌++◌, map, length, refl, sym, ap, ◌∙◌, subst, arith, ⊎_elim}
+use Rattle.std.specs.Prelude.{Option, None, Some, slice_get, slice_index, if◌then◌else◌}
 use Rattle.std.proofs.lemmas.Bool.{and_parts, and_from, cases_lt}
 use Rattle.std.proofs.lemmas.Option.{slice_get_within}
 use Rattle.call_tree.specs.declared.piece.Decision2.{Decision2}
@@ -13,7 +13,7 @@ use Rattle.tree_terms.specs.declared.rules.Rule.{Rule}
 use Rattle.tree_terms.specs.Rules.{rule_holds, rules_hold}
 use Rattle.tree_words.specs.Linking.{number, ends_by, fails_by, sites_by}
 use Rattle.tree_words.specs.Rooting.{term, RulesSay}
-use Rattle.tree_words.specs.Asking.{over, cut_by, cut, cuts_to, rules_to, decided, rules_of}
+use Rattle.tree_words.specs.Asking.{over, cut_by, cut, cuts_to, rules_to, decided}
 use Rattle.tree_words.specs.RulesSaid.{numbered, RulesAreSaid}
 
 hold_both : (v : ℕ → Bool) (xs ys : List Rule) → rules_hold v (xs ++ ys) ≡ (rules_hold v xs && rules_hold v ys)

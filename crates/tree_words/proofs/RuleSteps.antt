@@ -1,5 +1,5 @@
 -- A rule more.
-use Rattle.std.proofs.Common.{◌≡◌, ℕ, suc, ◌+◌, Bool, List, [], ◌∷◌, ◌++◌, length, sym, ap, ◌∙◌, arith, append_assoc}
+use Rattle.std.proofs.Common.{◌≡◌, ℕ, suc, ◌+◌, Bool, List, ◌++◌, length, ap, ◌∙◌, arith, append_assoc}
 use Rattle.tree_terms.specs.declared.linked.Linked.{Linked}
 use Rattle.tree_terms.specs.Linked.{template_of}
 use Rattle.tree_terms.specs.declared.rules.Rule.{Rule}

@@ -1,23 +1,21 @@
 -- The nodes that are read are the run that the views say.
-use Rattle.std.proofs.Common.{◌≡◌, ℕ, zero, suc, ◌+◌, ◌-◌, ◌<◌, ◌≤◌, Bool, true, false, not, ◌&&◌, List, [], ◌∷◌, ◌++◌, map, length, length-append, append_assoc, append-nil, refl, sym, ap, ◌∙◌, subst, arith, true≢false, inl, inr, ◌⊎◌, ⊎_elim, slice_index_or}
+use Rattle.std.proofs.Common.{◌≡◌, ℕ, zero, suc, ◌+◌, ◌<◌, ◌≤◌, Bool, true, false, not, List, [], ◌∷◌, ◌++◌, map, length, length-append, append_assoc, refl, sym, ap, ◌∙◌, subst, arith, true≢false, slice_index_or}
 use Rattle.std.specs.Prelude.{Option, None, Some, is_some, slice_get, slice_index, nat_lt, IsTrue, filter, cond, if◌then◌else◌}
 use Rattle.std.specs.List.{list_all}
 use Rattle.std.specs.Option.{option_and_then}
 use Rattle.std.proofs.lemmas.Bool.{and_from, lt-ltb}
-use Rattle.std.proofs.lemmas.Option.{slice_get_within}
 use Rattle.hy_val.specs.declared.value.Value.{Value}
 use Rattle.hy_val.specs.Values.{at, is_on}
 use Rattle.hy_term.specs.Formula.{Formula as Terms}
-use Rattle.hy_term.specs.Meaning.{value, values, fits}
+use Rattle.hy_term.specs.Meaning.{values}
 use Rattle.hy_term.specs.declared.node.TermNode.{TermNode}
 use Rattle.hy_term.proofs.Growing.{length-values}
 use Rattle.flat_prog.specs.Program.{FlatProgram, blocks_of}
 use Rattle.flat_prog.specs.Sites.{sites_passed}
 use Rattle.flat_prog.specs.Laws.{NodesAreRuns, below_of}
 use Rattle.flat_prog.specs.Nodes.{is_child, is_node_child, nodes_fit, are_nodes, are_whole_nodes, stray, track_at, runs_of, run_of}
-use Rattle.flat_prog.specs.Trees.{Run, Below, node, none, inner, free}
+use Rattle.flat_prog.specs.Trees.{Run, Below, node, inner, free}
 use Rattle.flat_prog.specs.declared.run.Child.{Child}
-use Rattle.flat_prog.specs.declared.run.Child.TheVariants.{Node, Free}
 use Rattle.flat_prog.specs.declared.run.RunNode.{RunNode}
 use Rattle.tree_terms.specs.declared.linked.Linked.{Linked}
 use Rattle.tree_terms.specs.declared.linked.SiteTerms.{SiteTerms}
@@ -27,16 +25,15 @@ use Rattle.tree_terms.specs.Tables.{row}
 use Rattle.tree_terms.specs.Rules.{bit}
 use Rattle.tree_words.specs.Built.{built, below_built, on_sites, root_run}
 use Rattle.tree_words.specs.View.{SiteView, NodeView}
-use Rattle.tree_words.specs.Template.{called_with, site_by, view_by, node_values}
-use Rattle.tree_terms.specs.Standing.{all_at}
+use Rattle.tree_words.specs.Template.{site_by, view_by, node_values}
 use Rattle.tree_words.specs.Whole.{IsTree}
-use Rattle.tree_words.specs.Linking.{walk, number_or, number, is_node_of, put_at, place_at, template_at, globals_of, args_of, proc_of, formula, sites_by, IsFilled}
+use Rattle.tree_words.specs.Linking.{walk, number_or, number, is_node_of, put_at, template_at, formula, sites_by, IsFilled}
 use Rattle.tree_words.specs.Rooting.{term, IsReach, BitsAreThere}
 use Rattle.tree_words.specs.Stands.{views_at}
 use Rattle.tree_words.proofs.Linking.{in_tree, walk_snoc, some_number, copied}
-use Rattle.tree_words.specs.Reading.{track_by, free_by, child_by, children_by, node_vals, view_at, node_with, front_at, node_at, reached, slot, slots_to, nodes_to, nodes_read}
-use Rattle.tree_words.specs.NodesRead.{NodesAreRead, NoneOpen, IsRead}
-use Rattle.tree_words.proofs.Slots.{fit_each, slot_less, slots_index, nodes_count, nodes_get, nodes_of as whose, IsOf}
+use Rattle.tree_words.specs.Reading.{track_by, free_by, child_by, children_by, node_vals, view_at, node_with, front_at, node_at, reached, slot, slots_to, nodes_read}
+use Rattle.tree_words.specs.NodesRead.{NodesAreRead, NoneOpen}
+use Rattle.tree_words.proofs.Slots.{fit_each, slot_less, slots_index, nodes_count, nodes_get, nodes_of as whose}
 
 -- ---- lists
 

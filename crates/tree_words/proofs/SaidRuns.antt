@@ -1,5 +1,5 @@
 -- Where the views say a run, they reach the nodes that it has, and the run read off them is this one.
-use Rattle.std.proofs.Common.{◌≡◌, ℕ, zero, suc, ◌+◌, ◌<◌, ◌≤◌, Bool, true, false, not, ◌&&◌, ◌||◌, List, [], ◌∷◌, ◌++◌, length, refl, sym, ap, ◌∙◌, subst, append_assoc, append-nil, true≢false, ◌⊎◌, ⊎_elim, arith, length-append}
+use Rattle.std.proofs.Common.{◌≡◌, ℕ, zero, suc, ◌+◌, ◌<◌, ◌≤◌, Bool, true, false, not, ◌&&◌, ◌||◌, List, [], ◌∷◌, ◌++◌, length, refl, sym, ap, ◌∙◌, subst, append_assoc, append-nil, true≢false, ⊎_elim, arith, length-append}
 use Rattle.std.specs.Prelude.{nat_eq, slice_get, if◌then◌else◌}
 use Rattle.std.proofs.lemmas.Bool.{and_parts, or_cases, both_ways, eqb-true, false_from_ne_true}
 use Rattle.hy_val.specs.declared.value.Value.{Value}

@@ -1,6 +1,6 @@
 -- The terms of a question can hold exactly where it has a member.
-use Rattle.std.proofs.Common.{◌≡◌, ℕ, Bool, true, false, List, [], ◌∷◌, ◌++◌, refl, sym, ap, ◌∙◌, subst}
-use Rattle.std.specs.Prelude.{◌↔◌, IsTrue, slice_get, Option, None, Some}
+use Rattle.std.proofs.Common.{◌≡◌, ℕ, Bool, true, List, [], refl, ap, ◌∙◌, subst}
+use Rattle.std.specs.Prelude.{IsTrue, slice_get, Option, Some}
 use Rattle.hy_val.specs.declared.value.Value.{Value}
 use Rattle.flat_prog.specs.declared.proc.FlatProc.{FlatProc}
 use Rattle.hy_term.specs.Formula.{Formula}
@@ -14,7 +14,7 @@ use Rattle.flat_prog.specs.Trees.{Run, is_whole}
 use Rattle.call_tree.specs.declared.piece.Decision2.{Decision2}
 use Rattle.tree_words.specs.View.{SiteView, NodeView}
 use Rattle.tree_words.specs.Question.{IsMember}
-use Rattle.tree_words.specs.Compose.{Returned, Viewer, Composed}
+use Rattle.tree_words.specs.Compose.{Returned, Composed}
 use Rattle.tree_words.specs.Whole.{RootSays}
 use Rattle.tree_words.specs.Said.{Says}
 use Rattle.tree_words.specs.Built.{built, root_run}

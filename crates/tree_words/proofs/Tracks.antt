@@ -1,12 +1,11 @@
 -- What the run read off has at each node.
-use Rattle.std.proofs.Common.{◌≡◌, ℕ, zero, suc, ◌+◌, ◌<◌, ◌≤◌, Bool, true, false, not, ◌&&◌, ◌||◌, List, [], ◌∷◌, ◌++◌, length, length-append, append_assoc, append-nil, refl, sym, ap, ◌∙◌, subst, arith}
-use Rattle.std.specs.Prelude.{Option, None, Some, nat_eq, slice_get, if◌then◌else◌}
+use Rattle.std.proofs.Common.{◌≡◌, ℕ, zero, suc, ◌+◌, ◌<◌, ◌≤◌, Bool, true, false, not, ◌&&◌, ◌||◌, List, [], ◌∷◌, ◌++◌, length, length-append, append_assoc, append-nil, refl, sym, ap, ◌∙◌, arith}
+use Rattle.std.specs.Prelude.{None, Some, nat_eq, if◌then◌else◌}
 use Rattle.std.proofs.lemmas.Bool.{both_ways}
 use Rattle.hy_val.specs.declared.value.Value.{Value}
 use Rattle.hy_term.proofs.Numbering.{number_is}
 use Rattle.flat_prog.specs.Program.{FlatProgram}
-use Rattle.flat_prog.specs.Local.{Track}
-use Rattle.flat_prog.specs.Trees.{Run, Below, node, none, inner, free}
+use Rattle.flat_prog.specs.Trees.{Run, inner, free}
 use Rattle.tree_words.specs.View.{SiteView, NodeView}
 use Rattle.flat_prog.specs.Once.{has_number}
 use Rattle.tree_words.specs.Built.{built, below_built, on_sites}

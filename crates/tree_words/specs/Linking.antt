@@ -5,14 +5,13 @@ use Rattle.hy_val.specs.declared.sort.Sort.{Sort}
 use Rattle.hy_val.specs.declared.value.Value.{Value}
 use Rattle.hy_term.specs.TermSorts.{named}
 use Rattle.hy_term.specs.declared.node.TermNode.{TermNode}
-use Rattle.hy_term.specs.declared.node.TermNode.TheVariants.{Variable}
 use Rattle.flat_prog.specs.Local.{Track}
 use Rattle.tree_terms.specs.declared.linked.Linked.{Linked}
 use Rattle.tree_terms.specs.declared.linked.Role.{Role}
 use Rattle.tree_terms.specs.declared.linked.Role.TheVariants.{Const, Global, In, Failed, Out, After, Own}
 use Rattle.tree_terms.specs.declared.linked.SiteTerms.{SiteTerms}
 use Rattle.tree_terms.specs.declared.linked.Template.{Template as Formula}
-use Rattle.tree_terms.specs.Linked.{template_of, nodes_by, nodes_of, parent, kid, role_of, site_of, IsVariable, IsLinked}
+use Rattle.tree_terms.specs.Linked.{template_of, nodes_of, parent, kid, role_of, site_of, IsVariable}
 use Rattle.tree_terms.specs.Copying.{AreCopied}
 use Rattle.tree_terms.specs.Tables.{row}
 use Rattle.tree_words.specs.Template.{Template, TemplateFits, IsComposite}

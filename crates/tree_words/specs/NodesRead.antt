@@ -1,5 +1,5 @@
 -- Laws of the nodes that are read: they are the run that the views say, and so a member's.
-use Rattle.std.specs.Prelude.{◌≡◌, ◌<◌, ℕ, List, [], ◌∷◌, ◌++◌, length, IsTrue, Bool, true, false, Option, None, Some, slice_get, slice_index}
+use Rattle.std.specs.Prelude.{◌≡◌, ◌<◌, ℕ, List, [], length, IsTrue, Bool, true, false, None, Some, slice_get, slice_index}
 use Rattle.hy_val.specs.declared.value.Value.{Value}
 use Rattle.hy_term.specs.Formula.{Formula as Terms}
 use Rattle.hy_term.specs.Meaning.{fits, holds, values}

@@ -36,7 +36,7 @@ pub record InOrder (flat : FlatProgram) (v : NodeView) : Type 0 where
   pub along : sites_by_track flat v.track ≡ on_sites v (sites_by_track flat v.track) ++ more
   pub are : (i : ℕ) → (v.site i).on ≡ has_number (on_sites v (sites_by_track flat v.track)) i
 
--- the run read off has the views' tracks at the nodes that are reached, and no node elsewhere
+-- of the tree's nodes, the run read off has those that are reached, with the views' tracks, and no others
 abbrev pub TracksAreViews : Type 0
 TracksAreViews =
     (flat : FlatProgram) (is_node : List ℕ → Bool) (free_values : SiteView → List Value) (height : ℕ) (view : List ℕ → NodeView) → is_node [] ≡ true
@@ -44,7 +44,7 @@ TracksAreViews =
     → ((p : List ℕ) → is_node p ≡ true → goes view [] p ≡ true → InOrder flat (view p))
     → (p : List ℕ) → is_node p ≡ true → track_from (built height flat is_node free_values view []) flat p ≡ (if goes view [] p then Some (view p).track else None)
 
--- a node that is over stands for a run that passes its sites in order
+-- a node that is over, and whose view is sound, passes the first sites of its path and no others
 abbrev pub RunsAreInOrder : Type 0
 RunsAreInOrder = (flat : FlatProgram) (consts : List Value) (call : Request) (v : NodeView) → IsSound flat consts call v → (v.ends || v.fails) ≡ true → InOrder flat v
 
@@ -53,7 +53,7 @@ abbrev pub Chained : ℕ → List EdgeTerms → Type 0
 Chained b [] = Unit {0}
 Chained b (e ∷ es) = (e.block ≡ b) × Chained e.target es
 
--- the edges of the path that is read are those whose bits are true
+-- the edges of the path that is read are those whose bits are true, where these are chained from block 0
 abbrev pub EdgesAreTrue : Type 0
 EdgesAreTrue =
     (t : TrackTerms) (vs : List Value) → Chained 0 (passed_edges vs t.edges)

@@ -14,7 +14,7 @@ use Rattle.tree_terms.specs.declared.linked.TrackTerms.{TrackTerms}
 use Rattle.tree_terms.specs.declared.linked.ValueTerms.{ValueTerms}
 use Rattle.tree_terms.specs.declared.linked.Linked.{Linked}
 use Rattle.tree_terms.specs.declared.linked.Template.{Template as Formula}
-use Rattle.tree_terms.specs.Linked.{template_of, kid}
+use Rattle.tree_terms.specs.Linked.{kid}
 use Rattle.tree_terms.specs.Tables.{row}
 use Rattle.tree_words.specs.View.{SiteView, NodeView}
 use Rattle.tree_words.specs.Template.{view_by}
@@ -88,6 +88,7 @@ abbrev pub front_at : Linked → List Value → ℕ → List Value
 front_at q vs zero = map (at vs) q.consts ++ (map (at vs) q.globals ++ map (at vs) q.args)
 front_at q vs (suc m) = []
 
+-- the node of the run for a node of the tree, by the values of all terms
 abbrev pub node_at : List FlatProc → List (List ℕ) → List ℕ → Linked → List (List ℕ) → List Value → ℕ → RunNode
 node_at procs changes slots q places vs m = node_with procs changes slots q m (view_at q places vs m) (front_at q vs m)
 
@@ -102,6 +103,7 @@ abbrev pub slot : (ℕ → Bool) → ℕ → ℕ
 slot r zero = 0
 slot r (suc m) = if r m then suc (slot r m) else slot r m
 
+-- the numbers of the first nodes of the tree in the list
 abbrev pub slots_to : (ℕ → Bool) → ℕ → List ℕ
 slots_to r zero = []
 slots_to r (suc n) = slots_to r n ++ slot r n ∷ []

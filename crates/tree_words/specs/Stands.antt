@@ -1,5 +1,5 @@
 -- What makes terms a question: copies of the nodes' formulas, variables that may have all values of their sorts, and a root that says what a member must meet.
-use Rattle.std.specs.Prelude.{◌≡◌, ◌↔◌, ℕ, Bool, true, false, List, [], ◌∷◌, ◌++◌, slice_get, Option, None, Some, IsTrue}
+use Rattle.std.specs.Prelude.{◌≡◌, ◌↔◌, ℕ, Bool, true, List, [], slice_get, Option, None, Some, IsTrue}
 use Rattle.hy_val.specs.declared.value.Value.{Value}
 use Rattle.hy_val.specs.declared.sort.Sort.{Sort}
 use Rattle.flat_prog.specs.declared.proc.FlatProc.{FlatProc}
@@ -12,7 +12,7 @@ use Rattle.flat_prog.specs.Runs.{are_allowed}
 use Rattle.call_tree.specs.declared.piece.Decision2.{Decision2}
 use Rattle.tree_words.specs.View.{SiteView, NodeView}
 use Rattle.tree_words.specs.Question.{named}
-use Rattle.tree_words.specs.Compose.{Returned, Viewer, Parts, ret_of}
+use Rattle.tree_words.specs.Compose.{Returned, Parts, ret_of}
 use Rattle.tree_words.specs.Whole.{SoundParts, IsTree, RootSays, RunsKeep}
 use Rattle.tree_words.specs.Template.{Template, IsComposite, Agrees, called_with, node_values, view_of, viewer_of, Stands}
 use Rattle.tree_terms.specs.Standing.{all_at}

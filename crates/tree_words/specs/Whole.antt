@@ -10,7 +10,7 @@ use Rattle.call_tree.specs.Pieces.{meets}
 use Rattle.tree_words.specs.View.{SiteView, NodeView, IsSound, over_in}
 use Rattle.flat_prog.specs.Changes.{Keeps}
 use Rattle.tree_words.specs.Question.{goes}
-use Rattle.tree_words.specs.Compose.{Returned, Viewer, ret_of, Composed}
+use Rattle.tree_words.specs.Compose.{Returned, Viewer}
 
 -- Each node's formula is sound, and at a site that is passed says what comes back there: how the callee is over and its outs, and, where they leave what the
 -- callee may not change, the globals. What it says at an open site is what a free child may be. All that under calls, own choices and what comes back that fit.

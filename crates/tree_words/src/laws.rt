@@ -153,7 +153,7 @@ pub fn nodes_are_members()
     members_are_read();
 }
 
-/// The run that is read off has the views' tracks at the nodes that are reached, and no node elsewhere.
+/// Of the tree's nodes, the run that is read off has those that are reached, with the views' tracks, and no others.
 pub fn tracks_are_views()
     ensures { TracksAreViews }
 {}

@@ -1,4 +1,4 @@
-use Rattle.std.proofs.Common.{◌≡◌, sym, ap, ◌∙◌}
+use Rattle.std.proofs.Common.{sym, ap, ◌∙◌}
 use Rattle.std.specs.Option.{option_copied}
 use Rattle.tree_words.proofs.Listing.{row_some, row_none}
 use Rattle.tree_words.proofs.lists.row_at.Goals as goal

@@ -1,4 +1,4 @@
-use Rattle.std.proofs.Common.{◌≡◌, ◌<◌, length, slice_index_or}
+use Rattle.std.proofs.Common.{slice_index_or}
 use Rattle.tree_terms.proofs.Ruling.{false_stays}
 use Rattle.tree_words.proofs.PairBools.{pair_is, pair_bools, marks_next}
 use Rattle.tree_words.proofs.marking.marks.Goals as goal

@@ -1,6 +1,5 @@
-use Rattle.std.proofs.Common.{◌≡◌, List, length, sym, ap, ◌∙◌, subst}
-use Rattle.flat_prog.specs.declared.run.RunNode.{RunNode}
-use Rattle.tree_words.specs.Reading.{nodes_to, node_at, reached, slots_to}
+use Rattle.std.proofs.Common.{length, sym, ◌∙◌}
+use Rattle.tree_words.specs.Reading.{node_at, reached, slots_to}
 use Rattle.tree_words.proofs.Listing.{read_more, node_less}
 use Rattle.tree_words.proofs.reading.read_nodes.Goals as goal
 use Rattle.tree_words.proofs.reading.read_nodes.Goals.{then-is_reached+in_ok-next+in_ok-push, else-is_reached}

@@ -1,6 +1,6 @@
-use Rattle.std.proofs.Common.{◌≡◌, ◌+◌, ◌≤◌, length, arith, sym, ap, ◌∙◌, subst}
+use Rattle.std.proofs.Common.{◌+◌, length, arith, ap, ◌∙◌}
 use Rattle.std.specs.Prelude.{ℕ, List}
-use Rattle.flat_prog.specs.Sites.{sites_of, calls_of}
+use Rattle.flat_prog.specs.Sites.{calls_of}
 use Rattle.flat_prog.specs.declared.block.FlatCmd.{FlatCmd}
 use Rattle.tree_words.proofs.Listing.{before_more}
 use Rattle.tree_words.proofs.sites.calls_before.Goals as goal

@@ -1,4 +1,4 @@
-use Rattle.std.proofs.Common.{◌≡◌, ◌+◌, length, arith, sym, ap, ◌∙◌, subst}
+use Rattle.std.proofs.Common.{arith}
 use Rattle.tree_words.proofs.Listing.{pushed_more}
 use Rattle.tree_words.proofs.sites.push_numbers.Goals as goal
 
