@@ -1,10 +1,10 @@
-mod Growth
+pub mod Growth
 mod Found
 mod Truths
-mod Parts
+pub mod Parts
 mod Rows
 mod Turning
 mod Going
-mod Ruling
+pub mod Ruling
 mod Reaching
 mod Linking
