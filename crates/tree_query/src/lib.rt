@@ -1,6 +1,8 @@
 //! From a partly inlined tree of calls to one list of terms, and from values that answer it back to those of all terms.
 #![tactic(auto)]
 
+mod opening;
 mod valuing;
 
+pub use opening::{BaseTerms, base_terms};
 pub use valuing::term_values;
