@@ -1,18 +1,18 @@
 -- Variables that stand in a row: their numbers, their sorts and their values.
-use Rattle.std.proofs.Common.{◌≡◌, ℕ, zero, suc, ◌+◌, ◌<◌, ◌≤◌, Bool, true, false, List, [], ◌∷◌, ◌++◌, length, map, take, arith, sym, ◌∙◌, ap, refl, subst, append_assoc, append-nil, length-append}
+use Rattle.std.proofs.Common.{◌≡◌, ℕ, zero, suc, ◌+◌, ◌<◌, Bool, true, false, List, [], ◌∷◌, ◌++◌, length, map, take, arith, sym, ◌∙◌, ap, refl, subst, append_assoc, append-nil, length-append}
 use Rattle.std.specs.Prelude.{Option, None, Some, if◌then◌else◌, slice_get, nat_lt, IsTrue, IsSome}
 use Rattle.std.proofs.lemmas.Bool.Decides.{nat_tests}
 use Rattle.std.specs.Option.{option_and_then}
 use Rattle.hy_val.specs.NodeSorts.{is_sort}
 use Rattle.hy_val.specs.Stores.{have_sorts}
-use Rattle.hy_val.specs.Values.{at, default, has_sort}
+use Rattle.hy_val.specs.Values.{at, has_sort}
 use Rattle.hy_val.specs.declared.atom.AtomKind.TheVariants.{Bool as BoolAtom}
 use Rattle.hy_val.specs.declared.sort.Sort.{Sort}
 use Rattle.hy_val.specs.declared.sort.SortKind.TheVariants.{Scalar as ScalarSort}
 use Rattle.hy_val.specs.declared.sort.ScalarKind.TheVariants.{Bool as BoolSort}
 use Rattle.hy_val.specs.declared.value.Value.{Value}
 use Rattle.hy_val.specs.declared.value.Value.TheVariants.{Atom as AtomValue}
-use Rattle.hy_term.specs.TermSorts.{sorts_onto, sorts, sort_at}
+use Rattle.hy_term.specs.TermSorts.{sorts_onto, sorts}
 use Rattle.hy_term.specs.Meaning.{values_onto, values, fits}
 use Rattle.hy_term.specs.Variables.{below}
 use Rattle.hy_term.specs.declared.node.TermNode.{TermNode}
@@ -20,7 +20,7 @@ use Rattle.hy_term.specs.declared.node.TermNode.TheVariants.{Lit, Variable}
 use Rattle.hy_term.proofs.Sorting.{and_both, and_left, and_right}
 use Rattle.flat_prog.specs.Program.{FlatProgram}
 use Rattle.flat_prog.specs.Sites.{numbers_from}
-use Rattle.tree_terms.specs.Standing.{AreOf, all_at}
+use Rattle.tree_terms.specs.Standing.{AreOf}
 use Rattle.tree_terms.proofs.Growth.{below_more, below_push}
 use Rattle.tree_query.specs.declared.opening.BaseTerms.{BaseTerms}
 use Rattle.tree_query.specs.Opening.{ins_of, variables_from, called_sorts, IsOpening, HasTerms, CanHaveValues}
@@ -37,7 +37,7 @@ length-variables : (k : ℕ) (xs : List Sort) → length (variables_from k xs) �
 length-variables k [] = refl
 length-variables k (x ∷ xs) = ap suc (length-variables (k + 1) xs)
 
-numbers-snoc : (k n : ℕ) → numbers_from k (suc n) ≡ numbers_from k n ++ (k + n) ∷ []
+pub numbers-snoc : (k n : ℕ) → numbers_from k (suc n) ≡ numbers_from k n ++ (k + n) ∷ []
 numbers-snoc k zero = let e : k ≡ k + 0 = omega arith in ap (λ (m : ℕ). m ∷ []) e
 numbers-snoc k (suc n) =
     let e : (k + 1) + n ≡ k + suc n = omega arith in

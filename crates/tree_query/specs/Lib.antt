@@ -1,2 +1,4 @@
 pub mod Valued
 pub mod Opening
+pub mod Allowing
+pub mod Tabled
