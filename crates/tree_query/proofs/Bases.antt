@@ -22,8 +22,9 @@ use Rattle.flat_prog.specs.Program.{FlatProgram}
 use Rattle.flat_prog.specs.Sites.{numbers_from}
 use Rattle.tree_terms.specs.Standing.{AreOf}
 use Rattle.tree_terms.proofs.Growth.{below_more, below_push}
+use Rattle.tree_words.specs.Stands.{ins_at}
 use Rattle.tree_query.specs.declared.opening.BaseTerms.{BaseTerms}
-use Rattle.tree_query.specs.Opening.{ins_of, variables_from, called_sorts, IsOpening, HasTerms, CanHaveValues}
+use Rattle.tree_query.specs.Opening.{variables_from, called_sorts, IsOpening, HasTerms, CanHaveValues}
 
 -- ---- numbers
 
@@ -183,11 +184,11 @@ pub record Rows (flat : FlatProgram) (entry : ℕ) (n1 n2 n3 : List TermNode) : 
   pub second : length n2 ≡ (1 + length flat.consts) + length flat.globals
 
 pub rows : (flat : FlatProgram) (entry : ℕ) (n0 n1 n2 n3 : List TermNode) → n0 ≡ Lit (BoolAtom true) ∷ [] → n1 ≡ n0 ++ variables_from (length n0) flat.consts → n2 ≡ n1 ++ variables_from (length n1) flat.globals
-    → n3 ≡ n2 ++ variables_from (length n2) (ins_of (slice_get flat.procs entry)) → Rows flat entry n1 n2 n3
+    → n3 ≡ n2 ++ variables_from (length n2) (ins_at (slice_get flat.procs entry)) → Rows flat entry n1 n2 n3
 rows flat entry n0 n1 n2 n3 e0 e1 e2 e3 =
     let cs = flat.consts in
     let gs = flat.globals in
-    let is = ins_of (slice_get flat.procs entry) in
+    let is = ins_at (slice_get flat.procs entry) in
     let l1 : length n1 ≡ 1 + length cs =
     ap length e1 ∙ length-append n0 (variables_from (length n0) cs) ∙ ap (λ (k : ℕ). k + length (variables_from (length n0) cs)) (ap length e0) ∙ ap (λ (k : ℕ). 1 + k) (length-variables (length n0) cs) in
     let l2 : length n2 ≡ (1 + length cs) + length gs =
@@ -208,7 +209,7 @@ rows flat entry n0 n1 n2 n3 e0 e1 e2 e3 =
     }
 
 -- what three rows of variables make
-pub opening_is : (flat : FlatProgram) (entry : ℕ) (b : BaseTerms) (n0 n1 n2 : List TermNode) (cs gs is : List Sort) → cs ≡ flat.consts → gs ≡ flat.globals → is ≡ ins_of (slice_get flat.procs entry)
+pub opening_is : (flat : FlatProgram) (entry : ℕ) (b : BaseTerms) (n0 n1 n2 : List TermNode) (cs gs is : List Sort) → cs ≡ flat.consts → gs ≡ flat.globals → is ≡ ins_at (slice_get flat.procs entry)
     → n0 ≡ Lit (BoolAtom true) ∷ [] → n1 ≡ n0 ++ variables_from (length n0) cs → n2 ≡ n1 ++ variables_from (length n1) gs → b.terms.nodes ≡ n2 ++ variables_from (length n2) is → b.terms.root ≡ 0
     → b.consts ≡ numbers_from (length n0) (length cs) → b.globals ≡ numbers_from (length n1) (length gs) → b.args ≡ numbers_from (length n2) (length is) → IsOpening flat entry b
 opening_is flat entry b n0 n1 n2 cs gs is hc hg hi e0 e1 e2 e3 root bc bg bi =
@@ -229,7 +230,7 @@ pub opening_has : (flat : FlatProgram) (entry : ℕ) (b : BaseTerms) (ts : List 
 opening_has flat entry b ts o sorted low =
     let cs = flat.consts in
     let gs = flat.globals in
-    let is = ins_of (slice_get flat.procs entry) in
+    let is = ins_at (slice_get flat.procs entry) in
     let bool = ScalarSort BoolSort in
     let all : sorts b.terms.nodes ≡ Some (bool ∷ (cs ++ (gs ++ is))) =
     sorted ∙ ap Some (sorts_from (bool ∷ []) 1 (called_sorts flat entry) ts (sym (ap sorts o.nodes) ∙ sorted)) in
@@ -252,7 +253,7 @@ pub opening_values : (flat : FlatProgram) (entry : ℕ) (b : BaseTerms) → IsOp
 opening_values flat entry b o = λ xs ys zs hx hy hz.
     let cs = flat.consts in
     let gs = flat.globals in
-    let is = ins_of (slice_get flat.procs entry) in
+    let is = ins_at (slice_get flat.procs entry) in
     let bool = AtomValue (BoolAtom true) in
     let vs = xs ++ (ys ++ zs) in
     let a = λ (n : ℕ). at (bool ∷ vs) n in

@@ -6,3 +6,5 @@ pub mod Holding
 pub mod Distinct
 pub mod Numbers
 pub mod Tables
+pub mod Walking
+pub mod Basing

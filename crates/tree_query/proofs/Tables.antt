@@ -13,7 +13,8 @@ use Rattle.call_tree.proofs.Places.{along_first, and_then_some, option_map_some}
 use Rattle.tree_terms.specs.declared.linked.Place.{Place}
 use Rattle.tree_terms.specs.declared.linked.SiteTerms.{SiteTerms}
 use Rattle.tree_terms.specs.declared.linked.Template.{Template}
-use Rattle.tree_query.specs.Tabled.{place_in, place_or, place_by, HaveSites, sites_in, sites_of_template, proc_in, called_by, called_from, proc_from, place_with, place_from}
+use Rattle.tree_words.specs.Linking.{number_or, proc_by, sites_by}
+use Rattle.tree_query.specs.Tabled.{place_in, place_by, HaveSites, sites_of_template, called_by, called_from, proc_from, place_with, place_from}
 use Rattle.tree_query.proofs.Numbers.{Before, place_before, place_is}
 use Rattle.tree_query.proofs.Bases.{numbers-snoc}
 
@@ -23,7 +24,7 @@ abbrev list_or : Option (List ℕ) → List ℕ
 list_or None = []
 list_or (Some ns) = ns
 
-their_sites : (o : Option Template) → list_or (option_map (λ (t : Template). map (λ (s : SiteTerms). s.proc) t.sites) o) ≡ map (λ (s : SiteTerms). s.proc) (sites_in o)
+their_sites : (o : Option Template) → list_or (option_map (λ (t : Template). map (λ (s : SiteTerms). s.proc) t.sites) o) ≡ map (λ (s : SiteTerms). s.proc) (sites_by o)
 their_sites None = refl
 their_sites (Some t) = refl
 
@@ -44,13 +45,13 @@ length-mapped (s ∷ ss) = ap suc (length-mapped ss)
 pub sites_count : (flat : FlatProgram) (templates : List Template) (p : ℕ) → HaveSites flat templates → length (sites_of_template templates p) ≡ length (callees flat p)
 sites_count flat templates p h = sym (length-mapped (sites_of_template templates p)) ∙ ap length (sites_call flat templates p h)
 
-proc_by : (o : Option SiteTerms) (c : ℕ) → option_map (λ (s : SiteTerms). s.proc) o ≡ Some c → proc_in o ≡ c
-proc_by None c h = cc
-proc_by (Some s) c h = let e : Some s.proc ≡ Some c = h in cc
+proc_of_some : (o : Option SiteTerms) (c : ℕ) → option_map (λ (s : SiteTerms). s.proc) o ≡ Some c → proc_by o ≡ c
+proc_of_some None c h = cc
+proc_of_some (Some s) c h = let e : Some s.proc ≡ Some c = h in cc
 
-called_is : (flat : FlatProgram) (templates : List Template) (p site c : ℕ) → HaveSites flat templates → slice_get (callees flat p) site ≡ Some c → called_by templates p site ≡ c
+pub called_is : (flat : FlatProgram) (templates : List Template) (p site c : ℕ) → HaveSites flat templates → slice_get (callees flat p) site ≡ Some c → called_by templates p site ≡ c
 called_is flat templates p site c h is =
-    proc_by (slice_get (sites_of_template templates p) site) c
+    proc_of_some (slice_get (sites_of_template templates p) site) c
     (sym (slice_get-map (λ (s : SiteTerms). s.proc) (sites_of_template templates p) site) ∙ ap (λ (ns : List ℕ). slice_get ns site) (sites_call flat templates p h) ∙ is)
 
 -- ---- the way to a node
@@ -135,7 +136,7 @@ parent_before flat entry bound tree i x xs t is =
     (subst (λ (ps : List (List ℕ)). has_path (take i ps) (parent (x ∷ xs)) ≡ true) (sym t.root_first)
     (first_placed flat entry bound t.rest i x xs t.placed (ap (λ (ps : List (List ℕ)). slice_get ps i) (sym t.root_first) ∙ is)))
 
-has_at : (ps : List (List ℕ)) (i : ℕ) (p : List ℕ) → slice_get ps i ≡ Some p → has_path ps p ≡ true
+pub has_at : (ps : List (List ℕ)) (i : ℕ) (p : List ℕ) → slice_get ps i ≡ Some p → has_path ps p ≡ true
 has_at ps i p h = found ps i p h
   where
     or_true : (b c : Bool) → c ≡ true → (b || c) ≡ true
@@ -160,11 +161,11 @@ take_get (q ∷ ps) (suc i) (suc k) p l h = take_get ps i k p (omega (arith, l))
 
 -- the procedure that is found is the path's
 proc_found : (flat : FlatProgram) (entry bound : ℕ) (tree : List (List ℕ)) (templates : List Template) (places : List Place) (i : ℕ) (path : List ℕ) → IsPartTree flat entry bound tree → HaveSites flat templates
-    → slice_get tree i ≡ Some path → places ≡ map (place_by flat entry tree) (take i tree) → proc_from templates places entry path (place_or (place_in tree (parent path))) ≡ proc_at flat entry path
+    → slice_get tree i ≡ Some path → places ≡ map (place_by flat entry tree) (take i tree) → proc_from templates places entry path (number_or (place_in tree (parent path))) ≡ proc_at flat entry path
 proc_found flat entry bound tree templates places i [] t h is before = refl
 proc_found flat entry bound tree templates places i (x ∷ xs) t h is before =
     let b = parent_before flat entry bound tree i x xs t is in
-    let up : place_or (place_in tree (parent (x ∷ xs))) ≡ b.place = ap place_or b.is in
+    let up : number_or (place_in tree (parent (x ∷ xs))) ≡ b.place = ap number_or b.is in
     let node : slice_get places b.place ≡ Some (place_by flat entry tree (parent (x ∷ xs))) =
     ap (λ (ps : List Place). slice_get ps b.place) before ∙ slice_get-map (place_by flat entry tree) (take i tree) b.place
     ∙ ap (option_map (place_by flat entry tree)) (take_get tree i b.place (parent (x ∷ xs)) b.low (place_is tree (parent (x ∷ xs)) b.place b.is)) in
@@ -174,8 +175,8 @@ proc_found flat entry bound tree templates places i (x ∷ xs) t h is before =
 pub place_found : (flat : FlatProgram) (entry bound : ℕ) (tree : List (List ℕ)) (templates : List Template) (places : List Place) (i : ℕ) (path : List ℕ) → IsPartTree flat entry bound tree → HaveSites flat templates
     → slice_get tree i ≡ Some path → places ≡ map (place_by flat entry tree) (take i tree) → place_from tree templates places entry path ≡ place_by flat entry tree path
 place_found flat entry bound tree templates places i path t h is before =
-    ap (λ (p : ℕ). place_with tree templates path p (place_or (place_in tree (parent path)))) (proc_found flat entry bound tree templates places i path t h is before)
-    ∙ ap (λ (n : ℕ). record { template = proc_at flat entry path; parent = place_or (place_in tree (parent path)); site = last_or 0 path; kids = map (place_in tree) (extended path (numbers_from 0 n)) })
+    ap (λ (p : ℕ). place_with tree templates path p (number_or (place_in tree (parent path)))) (proc_found flat entry bound tree templates places i path t h is before)
+    ∙ ap (λ (n : ℕ). record { template = proc_at flat entry path; parent = number_or (place_in tree (parent path)); site = last_or 0 path; kids = map (place_in tree) (extended path (numbers_from 0 n)) })
     (sites_count flat templates (proc_at flat entry path) h)
 
 map-snoc : (f : List ℕ → Place) (ps : List (List ℕ)) (p : List ℕ) → map f (ps ++ p ∷ []) ≡ map f ps ++ f p ∷ []

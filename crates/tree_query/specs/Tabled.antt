@@ -9,21 +9,18 @@ use Rattle.tree_terms.specs.declared.linked.Linked.{Linked}
 use Rattle.tree_terms.specs.declared.linked.Place.{Place}
 use Rattle.tree_terms.specs.declared.linked.SiteTerms.{SiteTerms}
 use Rattle.tree_terms.specs.declared.linked.Template.{Template}
+use Rattle.tree_words.specs.Linking.{number_or, proc_by, sites_by}
 
 -- the first place of a path in a list of paths
 abbrev pub place_in : List (List ℕ) → List ℕ → Option ℕ
 place_in [] path = None
 place_in (p ∷ ps) path = if bytes_eq p path then Some zero else option_map suc (place_in ps path)
 
-abbrev pub place_or : Option ℕ → ℕ
-place_or None = 0
-place_or (Some n) = n
-
 -- the node of a path: its procedure, its caller, the site there, and for each of its own sites the node there
 abbrev pub place_by : FlatProgram → (entry : ℕ) → List (List ℕ) → List ℕ → Place
 place_by flat entry tree path = record {
   template = proc_at flat entry path;
-  parent = place_or (place_in tree (parent path));
+  parent = number_or (place_in tree (parent path));
   site = last_or 0 path;
   kids = map (place_in tree) (sites_at flat entry path);
 }
@@ -38,19 +35,11 @@ HaveSites flat templates = map (λ (t : Template). map (λ (s : SiteTerms). s.pr
 
 -- ---- what the code reads; no public clause cites it
 
-abbrev pub sites_in : Option Template → List SiteTerms
-sites_in None = []
-sites_in (Some t) = t.sites
-
 abbrev pub sites_of_template : List Template → ℕ → List SiteTerms
-sites_of_template templates p = sites_in (slice_get templates p)
-
-abbrev pub proc_in : Option SiteTerms → ℕ
-proc_in None = 0
-proc_in (Some s) = s.proc
+sites_of_template templates p = sites_by (slice_get templates p)
 
 abbrev pub called_by : List Template → ℕ → ℕ → ℕ
-called_by templates p site = proc_in (slice_get (sites_of_template templates p) site)
+called_by templates p site = proc_by (slice_get (sites_of_template templates p) site)
 
 abbrev pub called_from : List Template → Option Place → ℕ → ℕ
 called_from templates None site = 0
@@ -71,4 +60,4 @@ place_with paths templates path proc up = record {
 
 abbrev pub place_from : List (List ℕ) → List Template → List Place → (entry : ℕ) → List ℕ → Place
 place_from paths templates tree entry path =
-    place_with paths templates path (proc_from templates tree entry path (place_or (place_in paths (parent path)))) (place_or (place_in paths (parent path)))
+    place_with paths templates path (proc_from templates tree entry path (number_or (place_in paths (parent path)))) (number_or (place_in paths (parent path)))

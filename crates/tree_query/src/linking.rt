@@ -2,7 +2,8 @@
 ghost use Rattle.std.specs.Prelude.{◌≡◌, ◌+◌, ℕ, map, IfOk};
 ghost use Rattle.flat_prog.specs.Sites.{numbers_from};
 ghost use Rattle.call_tree.specs.Trees.{IsPartTree, extended, last_or, parent};
-ghost use Rattle.tree_query.specs.Tabled.{HaveSites, IsTabled, called_by, place_by, place_from, place_in, place_or, proc_from, sites_of_template};
+ghost use Rattle.tree_words.specs.Linking.{number_or};
+ghost use Rattle.tree_query.specs.Tabled.{HaveSites, IsTabled, called_by, place_by, place_from, place_in, proc_from, sites_of_template};
 
 use crate::numbering::PathNumbers;
 use call_tree::laws::nodes_are_within_caps;
@@ -35,7 +36,7 @@ fn last_site(path: &[u32]) -> u32
 
 // The number of a path; 0 where it has none.
 fn number_of(numbers: &PathNumbers, path: &[u32]) -> usize
-    ensures { result ≡ place_or (place_in numbers.now path.now) }
+    ensures { result ≡ number_or (place_in numbers.now path.now) }
 {
     match numbers.find(path) {
         Some(number) => number,

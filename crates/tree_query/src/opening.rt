@@ -4,7 +4,8 @@ ghost use Rattle.hy_val.specs.NodeSorts.{is_sort};
 ghost use Rattle.hy_term.specs.TermSorts.{sorts};
 ghost use Rattle.hy_term.specs.Variables.{below};
 ghost use Rattle.flat_prog.specs.Sites.{numbers_from};
-ghost use Rattle.tree_query.specs.Opening.{CanHaveValues, HasTerms, IsOpening, ins_of, variables_from};
+ghost use Rattle.tree_words.specs.Stands.{ins_at};
+ghost use Rattle.tree_query.specs.Opening.{CanHaveValues, HasTerms, IsOpening, variables_from};
 
 use flat_prog::Flat;
 use hy_term::{TermNode, Terms, above_is_free};
@@ -76,7 +77,7 @@ fn push_variables(
 
 // The sorts of the ins of a procedure; none where it is not there.
 fn ins_at(flat: &Flat, proc: u32) -> &[Sort]
-    ensures { result.now ≡ ins_of (slice_get flat.now.procs proc) }
+    ensures { result.now ≡ ins_at (slice_get flat.now.procs proc) }
 {
     match at(flat.procs(), proc as usize) {
         None => &[],
