@@ -1,0 +1,10 @@
+pub mod Evaluating
+pub mod Bases
+pub mod Conjoining
+pub mod Differing
+pub mod Holding
+pub mod Distinct
+pub mod Numbers
+pub mod Tables
+pub mod Walking
+pub mod Basing
