@@ -52,7 +52,7 @@ read_decides job (Err refusal) outcome h = (λ e. cc, λ e. cc)
 read_decides (solo name bound) (Ok tree) outcome h = typed_decides name bound (checked tree) outcome h
 read_decides show (Ok tree) outcome h = (λ e. cc, λ e. cc)
 
-told_right : (before now : ℕ) (files : Option (List (List ℕ × List ℕ))) (task : Option Task) (tree : Option Ast) (outcome : Outcome) → now ≡ before → Decides outcome → IsRight files task tree outcome → IsTold before now files task tree outcome
+told_right : (before now : ℕ) (files : Option (List (List ℕ × List ℕ))) (task : Result Task Refusal) (tree : Option Ast) (outcome : Outcome) → now ≡ before → Decides outcome → IsRight files task tree outcome → IsTold before now files task tree outcome
 told_right before now files task tree Safe stays not right = record { may = right; causes = stays }
 told_right before now files task tree (Bug choices p a) stays not right = record { may = right; causes = stays }
 told_right before now files task tree Done stays not right = record { may = right; causes = stays }
@@ -72,12 +72,12 @@ answer_refused job bytes refusal (Ok a) reads told text_is =
 answer_refused job bytes refusal (Err e) reads told text_is = tt
 
 -- the answer for what was read is one for the file
-answer_read : (before now : ℕ) (files : Option (List (List ℕ × List ℕ))) (task : Task) (left : Option (List ℕ)) (source : Source) (reads : ReadsFile files task.file left source) (outcome : Outcome) (text : List ℕ) → now ≡ before → IsAnswerFor task.job reads.bytes outcome text → IsAnswer before now files (Some task) outcome text
+answer_read : (before now : ℕ) (files : Option (List (List ℕ × List ℕ))) (task : Task) (left : Option (List ℕ)) (source : Source) (reads : ReadsFile files task.file left source) (outcome : Outcome) (text : List ℕ) → now ≡ before → IsAnswerFor task.job reads.bytes outcome text → IsAnswer before now files (Ok task) outcome text
 answer_read before now files task left source reads outcome text stays answer =
     let judged : IsJudged files task (tree_in answer.read) outcome = record { bytes = reads.bytes; file = reads.opens; read = answer.read; reads = answer.reads; found = refl; judged = answer.judged } in
-    record { tree = tree_in answer.read; told = told_right before now files (Some task) (tree_in answer.read) outcome stays (read_decides task.job answer.read outcome answer.judged) judged; text_is = answer.text_is }
+    record { tree = tree_in answer.read; told = told_right before now files (Ok task) (tree_in answer.read) outcome stays (read_decides task.job answer.read outcome answer.judged) judged; text_is = answer.text_is }
 
-pub answer_ok : {E : Type 0} → (before now : ℕ) (files : Option (List (List ℕ × List ℕ))) (task : Task) (left : Option (List ℕ)) (source : Source) (result : Result Answer E) → now ≡ before → ReadsFile files task.file left source → ((bytes : List ℕ) → IsSource bytes source → IfOk result (λ a. IsAnswerFor task.job bytes a.outcome a.text)) → IfOk result (λ a. IsAnswer before now files (Some task) a.outcome a.text)
+pub answer_ok : {E : Type 0} → (before now : ℕ) (files : Option (List (List ℕ × List ℕ))) (task : Task) (left : Option (List ℕ)) (source : Source) (result : Result Answer E) → now ≡ before → ReadsFile files task.file left source → ((bytes : List ℕ) → IsSource bytes source → IfOk result (λ a. IsAnswerFor task.job bytes a.outcome a.text)) → IfOk result (λ a. IsAnswer before now files (Ok task) a.outcome a.text)
 answer_ok before now files task left source (Ok a) stays reads answers = answer_read before now files task left source reads a.outcome a.text stays (answers reads.bytes reads.is)
 answer_ok before now files task left source (Err e) stays reads answers = tt
 
@@ -86,5 +86,5 @@ prints_front before now files words held grown told text answer appends =
     record { begun = told; tree = answer.tree; told = answer.told; text = subst (λ t. AppendsFront held grown t) answer.text_is appends }
 
 -- want of memory may always be told
-pub answer_none : (before now : ℕ) (files : Option (List (List ℕ × List ℕ))) (task : Option Task) → IsAnswer before now files task NoMemory (text_of (entry_in task) None NoMemory)
+pub answer_none : (before now : ℕ) (files : Option (List (List ℕ × List ℕ))) (task : Result Task Refusal) → IsAnswer before now files task NoMemory (text_of (entry_in task) None NoMemory)
 answer_none before now files task = record { tree = None; told = record { may = tt; causes = tt }; text_is = refl }

@@ -18,10 +18,12 @@ use Rattle.type_pass.specs.declared.fault.TypeFault.{TypeFault}
 use Rattle.type_pass.specs.declared.fault.TypeKind.{TypeKind}
 use Rattle.type_pass.specs.declared.fault.TypeKind.TheVariants as types
 use Rattle.bpl_type.specs.declared.typed.Typed.{Typed}
+use Rattle.hydra_words.specs.declared.command.WordKind.{WordKind}
+use Rattle.hydra_words.specs.declared.command.WordKind.TheVariants.{Missing, Unexpected as UnexpectedWord, NotNumber, OutOfRange, Repeated}
 use Rattle.src_prog.specs.Program.{Program, number_of}
 use Rattle.src_run.specs.declared.machine.Choice.{Choice}
 use Rattle.hydra_top.specs.declared.outcome.Refusal.{Refusal}
-use Rattle.hydra_top.specs.declared.outcome.Refusal.TheVariants.{NotBuilt as NotBuiltPart, TooLong, Lex, Parse, Typing, Flow, NoEntry}
+use Rattle.hydra_top.specs.declared.outcome.Refusal.TheVariants.{NotBuilt as NotBuiltPart, Words as WrongWords, TooLong, Lex, Parse, Typing, Flow, NoEntry}
 use Rattle.hydra_top.specs.declared.outcome.Outcome.{Outcome}
 use Rattle.hydra_top.specs.declared.outcome.Outcome.TheVariants.{Safe, Bug, Done, Refused, ReadFault, WriteFault, NoMemory}
 use Rattle.hydra_top.specs.Traces.{names_asked, trace_text}
@@ -81,11 +83,19 @@ flow_words LabelTwice = codes "label twice"
 flow_words NotForward = codes "not forward"
 flow_words BreakOutside = codes "break outside"
 
--- a fault of a file's text: the part that found it, the offset of the byte, and the words of its kind
+abbrev pub word_words : WordKind → List ℕ
+word_words Missing = codes "missing"
+word_words UnexpectedWord = codes "unexpected"
+word_words NotNumber = codes "not number"
+word_words OutOfRange = codes "out of range"
+word_words Repeated = codes "repeated"
+
+-- a fault: the part that found it, the offset of the byte in the file or the number of the word, and the words of its kind
 abbrev pub fault_line : List ℕ → ℕ → List ℕ → List ℕ
 fault_line part at kind = line (codes "refused: " ++ part ++ codes " " ++ decimal at ++ codes " " ++ kind)
 
 abbrev pub refusal_text : Refusal → List ℕ
+refusal_text (WrongWords fault) = fault_line (codes "word") fault.index (word_words fault.kind)
 refusal_text (NotBuiltPart part) = line (codes "refused: not built")
 refusal_text TooLong = line (codes "refused: too long")
 refusal_text (Lex fault) = fault_line (codes "lex") fault.at (lex_words fault.kind)
@@ -131,12 +141,22 @@ text_of entry tree ReadFault = line (codes "fault: read")
 text_of entry tree WriteFault = []
 text_of entry tree NoMemory = line (codes "no memory")
 
+abbrev pub refusal_number : Refusal → ℕ
+refusal_number (WrongWords fault) = 2
+refusal_number (NotBuiltPart part) = 3
+refusal_number TooLong = 3
+refusal_number (Lex fault) = 3
+refusal_number (Parse fault) = 3
+refusal_number (Typing fault) = 3
+refusal_number (Flow fault) = 3
+refusal_number (NoEntry name) = 3
+
 -- the number of an outcome, which is the status of the process
 abbrev pub status_number : Outcome → ℕ
 status_number Safe = 0
 status_number (Bug choices proc assert) = 10
 status_number Done = 0
-status_number (Refused refusal) = 3
+status_number (Refused refusal) = refusal_number refusal
 status_number ReadFault = 4
 status_number WriteFault = 5
 status_number NoMemory = 6

@@ -1,5 +1,6 @@
 -- What the program promises of its outcome.
-use Rattle.std.specs.Prelude.{◌≡◌, ◌≢◌, ℕ, Bool, true, false, List, [], ◌∷◌, ◌++◌, ◌⊎◌, Option, None, Some, IsSome, Result, Ok, Err, ⊤}
+use Rattle.std.specs.Prelude.{◌≡◌, ◌≢◌, ℕ, Bool, true, false, List, [], ◌∷◌, ◌++◌, ◌⊎◌, Option, None, Some, Result, Ok, Err, ⊤}
+use Rattle.std.specs.Result.{IsOk}
 use Rattle.std.specs.Io.KnownBytes.{Appends}
 use Rattle.bpl_ast.specs.declared.decl.Ast.{Ast}
 use Rattle.bpl_flow.specs.Flow.{lowered}
@@ -12,7 +13,7 @@ use Rattle.src_run.specs.Machine.{HasStatus, NoneFails}
 use Rattle.src_run.specs.Plain.{is_plain}
 use Rattle.src_run.specs.declared.machine.Status.TheVariants.{Failed}
 use Rattle.hy_outside.specs.Outside.{OpensTo, Rose}
-use Rattle.hydra_top.specs.declared.outcome.NotBuilt.TheVariants.{Words, Source}
+use Rattle.hydra_top.specs.declared.outcome.NotBuilt.TheVariants.{Source}
 use Rattle.hydra_top.specs.declared.outcome.Refusal.{Refusal}
 use Rattle.hydra_top.specs.declared.outcome.Refusal.TheVariants.{NotBuilt as NotBuiltPart, Typing, Flow, NoEntry}
 use Rattle.hydra_top.specs.declared.outcome.Outcome.{Outcome}
@@ -84,18 +85,18 @@ pub record IsAnswerFor (job : Job) (bytes : List ℕ) (outcome : Outcome) (text 
   pub judged : IsRead job read outcome
   pub text_is : text ≡ text_of (entry_of job) (tree_in read) outcome
 
--- the outcome for the words, where no fault came and memory sufficed: words that are not of the form are refused
-abbrev pub IsRight : Option (List (List ℕ × List ℕ)) → Option Task → Option Ast → Outcome → Type 0
-IsRight files None tree outcome = outcome ≡ Refused (NotBuiltPart Words)
-IsRight files (Some task) tree outcome = IsJudged files task tree outcome
+-- the outcome for the words, where no fault came and memory sufficed: words that ask for no task are refused
+abbrev pub IsRight : Option (List (List ℕ × List ℕ)) → Result Task Refusal → Option Ast → Outcome → Type 0
+IsRight files (Err refusal) tree outcome = outcome ≡ Refused refusal
+IsRight files (Ok task) tree outcome = IsJudged files task tree outcome
 
 -- an outcome that may be told for the words: a right one, a fault of reading the file, or want of memory
-abbrev pub MayTell : Option (List (List ℕ × List ℕ)) → Option Task → Option Ast → Outcome → Type 0
+abbrev pub MayTell : Option (List (List ℕ × List ℕ)) → Result Task Refusal → Option Ast → Outcome → Type 0
 MayTell files task tree Safe = IsRight files task tree Safe
 MayTell files task tree (Bug choices proc assert) = IsRight files task tree (Bug choices proc assert)
 MayTell files task tree Done = IsRight files task tree Done
 MayTell files task tree (Refused refusal) = IsRight files task tree (Refused refusal)
-MayTell files task tree ReadFault = IsSome task
+MayTell files task tree ReadFault = IsOk task
 MayTell files task tree WriteFault = ⊥
 MayTell files task tree NoMemory = ⊤
 
@@ -110,12 +111,12 @@ ReadCauses before now WriteFault = ⊤
 ReadCauses before now NoMemory = ⊤
 
 -- an outcome that is told for the words, about a tree, and why it may be
-pub record IsTold (before now : ℕ) (files : Option (List (List ℕ × List ℕ))) (task : Option Task) (tree : Option Ast) (outcome : Outcome) : Type 0 where
+pub record IsTold (before now : ℕ) (files : Option (List (List ℕ × List ℕ))) (task : Result Task Refusal) (tree : Option Ast) (outcome : Outcome) : Type 0 where
   pub may : MayTell files task tree outcome
   pub causes : ReadCauses before now outcome
 
 -- an outcome that is told for the words, and its text
-pub record IsAnswer (before now : ℕ) (files : Option (List (List ℕ × List ℕ))) (task : Option Task) (outcome : Outcome) (text : List ℕ) : Type 0 where
+pub record IsAnswer (before now : ℕ) (files : Option (List (List ℕ × List ℕ))) (task : Result Task Refusal) (outcome : Outcome) (text : List ℕ) : Type 0 where
   pub tree : Option Ast
   pub told : IsTold before now files task tree outcome
   pub text_is : text ≡ text_of (entry_in task) tree outcome
@@ -138,9 +139,9 @@ pub record PrintsFront (before now : ℕ) (files : Option (List (List ℕ × Lis
   pub text : AppendsFront held grown (text_of (entry_in (task_of words)) tree begun)
 
 -- the file of the task was opened, or nothing was; nothing where there is no task
-abbrev pub OpensOnly : Option Task → List (List ℕ) → List (List ℕ) → Type 0
-OpensOnly None before now = now ≡ before
-OpensOnly (Some task) before now = (now ≡ before) ⊎ (now ≡ before ++ task.file ∷ [])
+abbrev pub OpensOnly : Result Task Refusal → List (List ℕ) → List (List ℕ) → Type 0
+OpensOnly (Err refusal) before now = now ≡ before
+OpensOnly (Ok task) before now = (now ≡ before) ⊎ (now ≡ before ++ task.file ∷ [])
 
 -- an outcome that may come where the shelf's count of faults grew
 abbrev pub MayMask : Outcome → Type 0

@@ -8,7 +8,7 @@ use Rattle.bpl_tok.specs.declared.token.Token.{Token}
 use Rattle.hy_text.specs.declared.refusal.Or.{Or}
 use Rattle.hy_text.specs.declared.refusal.Or.TheVariants as ors
 use Rattle.hydra_top.specs.declared.outcome.Refusal.{Refusal}
-use Rattle.hydra_top.specs.declared.outcome.Refusal.TheVariants.{NotBuilt, TooLong, Lex, Parse, Typing, Flow, NoEntry}
+use Rattle.hydra_top.specs.declared.outcome.Refusal.TheVariants.{NotBuilt, Words, TooLong, Lex, Parse, Typing, Flow, NoEntry}
 use Rattle.hydra_top.specs.Reading.{limit}
 
 -- the bytes have tokens, which are in the grammar at the tree
@@ -30,6 +30,7 @@ IsReadAs bytes (Ok tree) = (length bytes ≤ limit) × HasTree bytes tree
 IsReadAs bytes (Err TooLong) = limit < length bytes
 IsReadAs bytes (Err (Lex fault)) = (length bytes ≤ limit) × (tokens_of bytes ≡ Err fault)
 IsReadAs bytes (Err (Parse fault)) = (length bytes ≤ limit) × HasFault bytes fault
+IsReadAs bytes (Err (Words fault)) = ⊥
 IsReadAs bytes (Err (NotBuilt part)) = ⊥
 IsReadAs bytes (Err (Typing fault)) = ⊥
 IsReadAs bytes (Err (Flow fault)) = ⊥

@@ -1,8 +1,12 @@
--- The words of the program.
-use Rattle.std.specs.Prelude.{ℕ, nat_le, Bool, ◌&&◌, List, [], ◌∷◌, Option, None, Some, Result, Ok, Err, codes, if◌then◌else◌}
-use Rattle.std.specs.Str.{bytes_eq}
-use Rattle.hy_text.specs.declared.number.NumFault.{NumFault}
-use Rattle.hy_text.specs.Number.{number_of}
+-- What the words ask for: a task, or why they are refused.
+use Rattle.std.specs.Prelude.{ℕ, ◌==◌, List, [], length, Result, Ok, Err, if◌then◌else◌}
+use Rattle.hydra_words.specs.Words.{command_of}
+use Rattle.hydra_words.specs.declared.command.Command.{Command}
+use Rattle.hydra_words.specs.declared.command.Command.TheVariants.{Check, Solo, Replay, Show, Gen}
+use Rattle.hydra_words.specs.declared.command.WordFault.{WordFault}
+use Rattle.hydra_top.specs.declared.outcome.NotBuilt.TheVariants.{Words as NotBuiltWords}
+use Rattle.hydra_top.specs.declared.outcome.Refusal.{Refusal}
+use Rattle.hydra_top.specs.declared.outcome.Refusal.TheVariants.{NotBuilt, Words}
 
 -- what is to be done with a file: the runs of a procedure of its program, by its name, are searched within a bound, or its tree is shown
 pub data Job : Type 0 where
@@ -19,27 +23,30 @@ abbrev pub entry_of : Job → List ℕ
 entry_of (solo entry bound) = entry
 entry_of show = []
 
-abbrev pub entry_in : Option Task → List ℕ
-entry_in None = []
-entry_in (Some task) = entry_of task.job
+abbrev pub entry_in : Result Task Refusal → List ℕ
+entry_in (Err refusal) = []
+entry_in (Ok task) = entry_of task.job
 
-abbrev pub is_bound : ℕ → Bool
-is_bound n = nat_le 1 n && nat_le n 1000
+abbrev pub not_built : Result Task Refusal
+not_built = Err (NotBuilt NotBuiltWords)
 
--- the bound that is read
-abbrev pub bound_in : Result ℕ NumFault → Option ℕ
-bound_in (Ok n) = if is_bound n then Some n else None
-bound_in (Err fault) = None
+-- `solo` is built without options: there are no words but itself, the file, the entry and the bound
+abbrev pub solo_task : (count : ℕ) → (file entry : List ℕ) (bound : ℕ) → Result Task Refusal
+solo_task count file entry bound = if count == 4 then Ok (record { file = file; job = solo entry bound }) else not_built
 
-abbrev pub bounded : List ℕ → List ℕ → Option ℕ → Option Task
-bounded file entry None = None
-bounded file entry (Some bound) = Some (record { file = file; job = solo entry bound })
+-- what a command asks that has so many words
+abbrev pub task_in : (count : ℕ) → Command → Result Task Refusal
+task_in count (Check file entry bound workers grain journal) = not_built
+task_in count (Solo file entry bound grain journal) = solo_task count file entry bound
+task_in count (Replay file entry bound trace) = not_built
+task_in count (Show file) = Ok (record { file = file; job = show })
+task_in count (Gen seed size bound) = not_built
 
--- the words are `show` and a file; or `solo`, a file, an entry and the digits of a bound, of which leading zeros are read
-abbrev pub task_of : List (List ℕ) → Option Task
-task_of [] = None
-task_of (job ∷ []) = None
-task_of (job ∷ file ∷ []) = if bytes_eq job (codes "show") then Some (record { file = file; job = show }) else None
-task_of (job ∷ file ∷ entry ∷ []) = None
-task_of (job ∷ file ∷ entry ∷ bound ∷ []) = if bytes_eq job (codes "solo") then bounded file entry (bound_in (number_of bound)) else None
-task_of (job ∷ file ∷ entry ∷ bound ∷ more ∷ rest) = None
+-- words that are no command are refused for their first fault
+abbrev pub task_read : (count : ℕ) → Result Command WordFault → Result Task Refusal
+task_read count (Ok command) = task_in count command
+task_read count (Err fault) = Err (Words fault)
+
+-- what the words ask for
+abbrev pub task_of : List (List ℕ) → Result Task Refusal
+task_of words = task_read (length words) (command_of words)

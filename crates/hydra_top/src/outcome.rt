@@ -1,20 +1,21 @@
 //! What the program reports.
 
 ghost use Rattle.std.specs.Prelude.{◌≡◌};
-ghost use Rattle.hydra_top.specs.Texts.{status_number};
+ghost use Rattle.hydra_top.specs.Texts.{refusal_number, status_number};
 
 use bpl_flow::FlowFault;
 use bpl_parse::ParseFault;
 use bpl_tok::LexFault;
 use bpl_type::TypeFault;
 use hy_text::Text;
+use hydra_words::WordFault;
 use sqlite_items::Items;
 use src_run::Choice;
 
 /// What of the input is not built.
 #[derive(Clone, Copy, Debug, PartialEq, Eq)]
 pub enum NotBuilt {
-    /// The words are neither `show` and a file, nor `solo`, a file, an entry, and a bound from 1 to 1000 in digits.
+    /// The words are the command `check`, `replay` or `gen`, or `solo` with an option.
     Words,
     /// The entry is not plain: there are constants or axioms; or a variable of the program or of the entry is no bool; or the entry
     /// has in-parameters, more than one block or a call; or its globals, outs, locals and the names in its `havoc` commands are
@@ -25,6 +26,8 @@ pub enum NotBuilt {
 /// Why the input is refused.
 #[derive(Drop)]
 pub enum Refusal {
+    /// The words are no command: the first word at fault.
+    Words(WordFault),
     /// What it asks for is not built.
     NotBuilt { part: NotBuilt },
     /// The file has more than 16,777,216 bytes.
@@ -65,8 +68,8 @@ pub enum Outcome {
     NoMemory,
 }
 
-/// The outcome, and the status with which the process ends: 0 for Safe and Done, 10 for Bug, 3 for a
-/// refusal, 4 and 5 for faults of reading and writing, 6 for want of memory.
+/// The outcome, and the status with which the process ends: 0 for Safe and Done, 10 for Bug, 2 where the
+/// words are refused and 3 for every other refusal, 4 and 5 for faults of reading and writing, 6 for want of memory.
 #[derive(Drop)]
 pub struct Report {
     pub status: u8,
@@ -95,9 +98,24 @@ fn status(outcome: &Outcome) -> u8
             assert: _,
         } => 10,
         Outcome::Done => 0,
-        Outcome::Refused(_) => 3,
+        Outcome::Refused(refusal) => refusal_status(refusal),
         Outcome::ReadFault => 4,
         Outcome::WriteFault => 5,
         Outcome::NoMemory => 6,
+    }
+}
+
+fn refusal_status(refusal: &Refusal) -> u8
+    ensures { result ≡ refusal_number refusal.now }
+{
+    match refusal {
+        Refusal::Words(_) => 2,
+        Refusal::NotBuilt { part: _ } => 3,
+        Refusal::TooLong => 3,
+        Refusal::Lex(_) => 3,
+        Refusal::Parse(_) => 3,
+        Refusal::Typing(_) => 3,
+        Refusal::Flow(_) => 3,
+        Refusal::NoEntry { name: _ } => 3,
     }
 }

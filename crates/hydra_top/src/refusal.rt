@@ -1,7 +1,7 @@
 //! The texts of refusals.
 
 ghost use Rattle.std.specs.Prelude.{◌≡◌, ◌++◌, IfOk, codes};
-ghost use Rattle.hydra_top.specs.Texts.{fault_line, flow_words, left_out, lex_words, parse_words, refusal_text, type_words};
+ghost use Rattle.hydra_top.specs.Texts.{fault_line, flow_words, left_out, lex_words, parse_words, refusal_text, type_words, word_words};
 ghost use Rattle.trace_text.specs.Traces.{line};
 
 use crate::outcome::Refusal;
@@ -11,6 +11,7 @@ use bpl_parse::ParseKind;
 use bpl_tok::LexKind;
 use bpl_type::TypeKind;
 use hy_text::{Bytes, Text, put_u64};
+use hydra_words::WordKind;
 use std::alloc::{AllocError, Global};
 
 /// The line that refuses the input.
@@ -18,6 +19,7 @@ pub fn refusal_line(alloc: Global, refusal: &Refusal) -> Result<Bytes, AllocErro
     ensures { IfOk result (λ t. t ≡ refusal_text refusal.now) }
 {
     match refusal {
+        Refusal::Words(fault) => fault_text(alloc, b"word", fault.index, word_text(fault.kind)),
         Refusal::NotBuilt { part: _ } => Bytes::from_slice(alloc, b"refused: not built\n"),
         Refusal::TooLong => Bytes::from_slice(alloc, b"refused: too long\n"),
         Refusal::Lex(fault) => fault_text(alloc, b"lex", fault.at, lex_text(fault.kind)),
@@ -44,7 +46,7 @@ fn type_line(alloc: Global, at: usize, kind: TypeKind) -> Result<Bytes, AllocErr
     fault_text(alloc, b"type", at, words.as_slice())
 }
 
-// The line of a fault of a part of the reader, at an offset, in the words of its kind.
+// The line of a fault that a part of the reader found, at an offset or a word, in the words of its kind.
 fn fault_text(alloc: Global, part: &[u8], at: usize, kind: &[u8]) -> Result<Bytes, AllocError>
     ensures { IfOk result (λ t. t ≡ fault_line part.now at kind.now) }
 {
@@ -56,6 +58,18 @@ fn fault_text(alloc: Global, part: &[u8], at: usize, kind: &[u8]) -> Result<Byte
     text.append(kind)?;
     text.push(b'\n')?;
     Ok(text)
+}
+
+fn word_text(kind: WordKind) -> &'static [u8]
+    ensures { result.now ≡ word_words kind }
+{
+    match kind {
+        WordKind::Missing => b"missing",
+        WordKind::Unexpected => b"unexpected",
+        WordKind::NotNumber => b"not number",
+        WordKind::OutOfRange => b"out of range",
+        WordKind::Repeated => b"repeated",
+    }
 }
 
 fn lex_text(kind: LexKind) -> &'static [u8]

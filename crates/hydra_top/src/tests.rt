@@ -97,33 +97,115 @@ fn trees_are_shown(rt: HostRuntime) -> Result<(), Fail> {
 
 #[test]
 fn words_are_read(rt: HostRuntime) -> Result<(), Fail> {
-    let refused: &[u8] = b"refused: not built\n";
     let safe: &[u8] = b"Safe\n";
-    let cases: [(&[&str], u8, &[u8]); 15] = [
-        (&["show"], 3, refused),
-        (&["show", "f", "main"], 3, refused),
+    let cases: [(&[&str], u8, &[u8]); 6] = [
         (&["show", "g"], 4, b"fault: read\n"),
+        (&["solo", "g", "main", "1"], 4, b"fault: read\n"),
         (&["solo", "f", "main", "1000"], 0, safe),
         (
             &["solo", "f", "main", "00000000000000000000000001"],
             0,
             safe,
         ),
-        (&["solo", "f", "main", "0"], 3, refused),
-        (&["solo", "f", "main", "1001"], 3, refused),
-        (&["solo", "f", "main", "18446744073709551617"], 3, refused),
-        (&["solo", "f", "main", "+1"], 3, refused),
-        (&["solo", "f", "main", ""], 3, refused),
-        (&["check", "f", "main", "1"], 3, refused),
-        (&["solo", "f", "main"], 3, refused),
-        (&["solo", "f", "main", "1", "1"], 3, refused),
-        (&[], 3, refused),
-        (&["solo", "g", "main", "1"], 4, b"fault: read\n"),
+        (
+            &["solo", "f", "--grain", "1"],
+            3,
+            b"refused: no entry --grain\n",
+        ),
+        (&["show", "--journal"], 4, b"fault: read\n"),
     ];
     for (words, status, printed) in cases {
         let (ended, out) = run(rt.alloc(), words, ASSUMED, &[], 100, &[])?;
         assert_eq!(rt; ended, status);
         assert_eq!(rt; out.held(), printed);
+    }
+    Ok(())
+}
+
+#[test]
+fn wrong_words_are_named(rt: HostRuntime) -> Result<(), Fail> {
+    let cases: [(&[&str], &[u8]); 21] = [
+        (&[], b"refused: word 0 missing\n"),
+        (&["check"], b"refused: word 1 missing\n"),
+        (
+            &["check", "a", "main", "0", "1"],
+            b"refused: word 3 out of range\n",
+        ),
+        (
+            &["check", "a", "main", "1001", "1"],
+            b"refused: word 3 out of range\n",
+        ),
+        (
+            &["check", "a", "main", "1", "0"],
+            b"refused: word 4 out of range\n",
+        ),
+        (
+            &["check", "a", "main", "1", "65"],
+            b"refused: word 4 out of range\n",
+        ),
+        (
+            &["check", "a", "main", "x", "1"],
+            b"refused: word 3 not number\n",
+        ),
+        (
+            &[
+                "check", "a", "main", "1", "2", "--grain", "2", "--grain", "3",
+            ],
+            b"refused: word 7 repeated\n",
+        ),
+        (
+            &["check", "a", "main", "1", "2", "--grain"],
+            b"refused: word 6 missing\n",
+        ),
+        (
+            &["solo", "a", "main", "1", "extra"],
+            b"refused: word 4 unexpected\n",
+        ),
+        (&["--help"], b"refused: word 0 unexpected\n"),
+        (&["show"], b"refused: word 1 missing\n"),
+        (&["show", "f", "main"], b"refused: word 2 unexpected\n"),
+        (&["solo", "f", "main"], b"refused: word 3 missing\n"),
+        (
+            &["solo", "f", "main", "0"],
+            b"refused: word 3 out of range\n",
+        ),
+        (
+            &["solo", "f", "main", "1001"],
+            b"refused: word 3 out of range\n",
+        ),
+        (
+            &["solo", "f", "main", "18446744073709551617"],
+            b"refused: word 3 out of range\n",
+        ),
+        (
+            &["solo", "f", "main", "+1"],
+            b"refused: word 3 not number\n",
+        ),
+        (&["solo", "f", "main", ""], b"refused: word 3 not number\n"),
+        (&["gen", "7", "0", "2"], b"refused: word 2 out of range\n"),
+        (&["replay", "f", "main", "1"], b"refused: word 4 missing\n"),
+    ];
+    for (words, printed) in cases {
+        let (ended, out) = run(rt.alloc(), words, ASSUMED, &[], 100, &[])?;
+        assert_eq!(rt; ended, 2);
+        assert_eq!(rt; out.held(), printed);
+    }
+    Ok(())
+}
+
+#[test]
+fn commands_that_are_not_built_are_told(rt: HostRuntime) -> Result<(), Fail> {
+    let cases: [&[&str]; 5] = [
+        &["check", "f", "main", "1", "1"],
+        &["gen", "7", "6", "2"],
+        &["replay", "f", "main", "1", "t"],
+        &["solo", "f", "main", "1", "--grain", "16"],
+        &["solo", "f", "main", "1", "--journal"],
+    ];
+    for words in cases {
+        let (ended, out) = run(rt.alloc(), words, ASSUMED, &[], 100, &[])?;
+        assert_eq!(rt; ended, 3);
+        assert_eq!(rt; out.held(), b"refused: not built\n".as_slice());
     }
     Ok(())
 }

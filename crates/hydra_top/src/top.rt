@@ -1,24 +1,26 @@
 //! The top call.
 
-ghost use Rattle.std.specs.Prelude.{◌≡◌, ◌≢◌, ◌<◌, IfOk, Some};
+ghost use Rattle.std.specs.Prelude.{◌≡◌, ◌≢◌, ◌<◌, IfOk, Ok};
 ghost use Rattle.std.specs.Io.KnownBytes.{Appends};
 ghost use Rattle.hy_outside.specs.Outside.{Rose};
 ghost use Rattle.hydra_top.specs.Asked.{HasBound, asked};
 ghost use Rattle.hydra_top.specs.Texts.{status_number};
-ghost use Rattle.hydra_top.specs.Words.{task_of};
+ghost use Rattle.hydra_words.specs.Forms.{IsInRange};
+ghost use Rattle.hydra_top.specs.Words.{task_in, task_of};
 ghost use Rattle.hydra_top.specs.Top.{IsAnswer, MayMask, OpensOnly, Prints, PrintsFront, RightFor};
 ghost use Rattle.hydra_top.specs.Writing.{AppendsFront};
 
 use crate::judging::{Answer, judged, refused};
 use crate::outcome::{NotBuilt, Outcome, Refusal, Report};
 use crate::reading::{ReadEnd, read_file};
-use crate::words::{Task, read_words};
+use crate::words::{Task, task_in};
 use crate::writing::write_all;
 use hy_outside::{Shelf, Sink};
-use hy_text::{Bytes, Text};
+use hy_text::{Bytes, Or, Text};
+use hydra_words::{Command, read_words};
 use std::alloc::{AllocError, Global};
 
-/// Does what the words ask: reads the file, searches the runs of its entry, and prints the outcome.
+/// Does what the words ask: reads them, reads the file, searches the runs of its entry, and prints the outcome.
 /// It always returns.
 ///
 /// All text is made before the first byte is written, and the loop that writes takes no memory.
@@ -56,22 +58,38 @@ fn decided<S: Shelf>(alloc: Global, words: &[Text], shelf: &mut S) -> Result<Ans
     ensures answer { IfOk result (λ a. IsAnswer (S.faults shelf.old) (S.faults shelf.new) (S.files shelf.old) (task_of words.now) a.outcome a.text) }
     ensures opened { OpensOnly (task_of words.now) (S.opened shelf.old) (S.opened shelf.new) }
 {
-    match read_words(words) {
+    match read_words(alloc, words) {
+        Ok(command) => obeyed(alloc, words.len(), &command, shelf),
+        Err(Or::Fault(fault)) => refused(alloc, Refusal::Words(fault)),
+        Err(Or::NoMemory) => Err(AllocError),
+    }
+}
+
+// The answer for a command of so many words.
+fn obeyed<S: Shelf>(
+    alloc: Global,
+    count: usize,
+    command: &Command,
+    shelf: &mut S,
+) -> Result<Answer, AllocError>
+    requires ranges { IsInRange command.now }
+    ensures answer { IfOk result (λ a. IsAnswer (S.faults shelf.old) (S.faults shelf.new) (S.files shelf.old) (task_in count command.now) a.outcome a.text) }
+    ensures opened { OpensOnly (task_in count command.now) (S.opened shelf.old) (S.opened shelf.new) }
+{
+    match task_in(count, command) {
         Some(task) => answered(alloc, &task, shelf),
-        None => refused(
-            alloc,
-            Refusal::NotBuilt {
-                part: NotBuilt::Words,
-            },
-        ),
+        None => {
+            let part = NotBuilt::Words;
+            refused(alloc, Refusal::NotBuilt { part })
+        }
     }
 }
 
 // The answer for a task.
 fn answered<S: Shelf>(alloc: Global, task: &Task, shelf: &mut S) -> Result<Answer, AllocError>
     requires bound { HasBound task.now.job }
-    ensures answer { IfOk result (λ a. IsAnswer (S.faults shelf.old) (S.faults shelf.new) (S.files shelf.old) (Some (asked task.now)) a.outcome a.text) }
-    ensures opened { OpensOnly (Some (asked task.now)) (S.opened shelf.old) (S.opened shelf.new) }
+    ensures answer { IfOk result (λ a. IsAnswer (S.faults shelf.old) (S.faults shelf.new) (S.files shelf.old) (Ok (asked task.now)) a.outcome a.text) }
+    ensures opened { OpensOnly (Ok (asked task.now)) (S.opened shelf.old) (S.opened shelf.new) }
 {
     match read_file(alloc, shelf, task.file) {
         Ok(source) => judged(alloc, &task.job, &source),

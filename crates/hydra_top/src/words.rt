@@ -1,11 +1,12 @@
-//! The words of the program.
+//! The task of a command.
 
-ghost use Rattle.std.specs.Prelude.{◌≡◌, ◌≤◌, ◌∷◌, [], None, Some, IfSome, MatchOption};
-ghost use Rattle.hy_text.specs.Number.{number_of};
-ghost use Rattle.hydra_top.specs.Words.{bound_in, task_of};
+ghost use Rattle.std.specs.Prelude.{◌≡◌, ◌≤◌, Ok, IfSome, MatchOption};
+ghost use Rattle.hydra_words.specs.Forms.{IsInRange};
+ghost use Rattle.hydra_top.specs.Words.{not_built, solo_task, task_in};
 ghost use Rattle.hydra_top.specs.Asked.{HasBound, asked};
 
-use hy_text::{Text, read_u64};
+use hy_text::Text;
+use hydra_words::Command;
 
 /// What is to be done with a file.
 #[derive(Clone, Copy)]
@@ -23,56 +24,39 @@ pub struct Task<'a> {
     pub job: Job<'a>,
 }
 
-/// The task of the words, or None where they are of neither form: `show` and a file; or `solo`, a
-/// file, an entry, and a bound from 1 to 1000 in digits. File and entry are any text.
-pub fn read_words<'a>(words: &'a [Text]) -> Option<Task<'a>>
-    ensures task { MatchOption result (task_of words.now ≡ None) (λ t. task_of words.now ≡ Some (asked t)) }
+/// The task of a command that has so many words, or None where it isn't built: `check`, `replay`, `gen`, and `solo` with an option.
+pub fn task_in<'a>(count: usize, command: &'a Command) -> Option<Task<'a>>
+    requires { IsInRange command.now }
+    ensures task { MatchOption result (task_in count command.now ≡ not_built) (λ t. task_in count command.now ≡ Ok (asked t)) }
     ensures bound { IfSome result (λ t. HasBound t.job) }
 {
-    match words {
-        [job, file] => show_task(job, file),
-        [job, file, entry, digits] => solo_task(job, file, entry, digits),
-        _ => None,
+    match command {
+        Command::Solo {
+            file,
+            entry,
+            bound,
+            grain: _,
+            journal: _,
+        } => solo_task(count, file, entry, *bound),
+        Command::Show { file } => Some(Task {
+            file,
+            job: Job::Show,
+        }),
+        Command::Check { .. } => None,
+        Command::Replay { .. } => None,
+        Command::Gen { .. } => None,
     }
 }
 
-// The task of two words.
-fn show_task<'a>(job: &Text, file: &'a Text) -> Option<Task<'a>>
-    ensures task { MatchOption result (task_of (job.now ∷ file.now ∷ []) ≡ None) (λ t. task_of (job.now ∷ file.now ∷ []) ≡ Some (asked t)) }
+// The task of `solo`, which has four words where it has no option.
+fn solo_task<'a>(count: usize, file: &'a Text, entry: &'a Text, bound: u32) -> Option<Task<'a>>
+    requires { (1 ≤ bound) × (bound ≤ 1000) }
+    ensures task { MatchOption result (solo_task count file.now entry.now bound ≡ not_built) (λ t. solo_task count file.now entry.now bound ≡ Ok (asked t)) }
     ensures bound { IfSome result (λ t. HasBound t.job) }
 {
-    if job.as_str() != "show" {
+    if count != 4 {
         return None;
     }
-    let job = Job::Show;
-    Some(Task { file, job })
-}
-
-// The task of four words.
-fn solo_task<'a>(job: &Text, file: &'a Text, entry: &'a Text, digits: &Text) -> Option<Task<'a>>
-    ensures task { MatchOption result (task_of (job.now ∷ file.now ∷ entry.now ∷ digits.now ∷ []) ≡ None) (λ t. task_of (job.now ∷ file.now ∷ entry.now ∷ digits.now ∷ []) ≡ Some (asked t)) }
-    ensures bound { IfSome result (λ t. HasBound t.job) }
-{
-    if job.as_str() != "solo" {
-        return None;
-    }
-    let bound = read_bound(digits.as_bytes())?;
     let job = Job::Solo { entry, bound };
     Some(Task { file, job })
-}
-
-// The bound that the digits write.
-fn read_bound(digits: &[u8]) -> Option<u32>
-    ensures bound { result ≡ bound_in (number_of digits.now) }
-    ensures within { IfSome result (λ n. (1 ≤ n) × (n ≤ 1000)) }
-{
-    match read_u64(digits) {
-        Ok(n) => {
-            if 1 <= n && n <= 1000 {
-                return Some(n as u32);
-            }
-            None
-        }
-        Err(_) => None,
-    }
 }
