@@ -24,7 +24,10 @@ pub enum Shape {
 // Procedures, each of which calls the next one.
 fn push_procedures(alloc: Global, text: &mut Vec<u8>, size: u64) -> Result<(), AllocError> {
     for number in 1..size {
-        let unit = format!(in alloc; "procedure p{number}(x: bv8) returns (y: bv8) {{ call y := p{}(x); assert y != x; }}\n", number.wrapping_add(1))?;
+        let unit = format!(in alloc;
+            "procedure p{number}(x: bv8) returns (y: bv8) {{ call y := p{}(x); assert y != x; }}\n",
+            number.wrapping_add(1)
+        )?;
         text.extend_from_slice(unit.as_bytes())?;
     }
     let last = format!(in alloc; "procedure p{size}(x: bv8) returns (y: bv8) {{ y := x; }}\n")?;
@@ -64,7 +67,11 @@ fn text(alloc: Global, shape: Shape, size: u64) -> Result<Vec<u8>, AllocError> {
         Shape::Procedures => push_procedures(alloc, &mut text, size)?,
         Shape::Nests => {
             let nests = size / 100;
-            push_loops(&mut text, nests, size.saturating_sub(nests.saturating_mul(10)))?;
+            push_loops(
+                &mut text,
+                nests,
+                size.saturating_sub(nests.saturating_mul(10)),
+            )?;
         }
         Shape::Rows => push_loops(&mut text, 0, size)?,
     }
