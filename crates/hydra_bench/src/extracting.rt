@@ -66,7 +66,7 @@ pub struct WayBack {
 }
 
 /// Makes a program of so many loops in a row, its flat program, a run tree that turns each loop once and then fails,
-/// and the choices of that tree, so many times.
+/// and the choices of that tree.
 pub fn back(alloc: Global, size: u32) -> Result<WayBack, AllocError> {
     let prog = program(alloc, Shape::Rows, size as u64)?;
     if prog.procs().is_empty() {
