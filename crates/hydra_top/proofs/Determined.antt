@@ -1,6 +1,6 @@
 -- Some bytes are read as one tree, or refused for one cause.
 use Rattle.std.proofs.Common.{◌≡◌, ℕ, ◌<◌, ◌≤◌, List, [], length, arith, sym, ◌∙◌, ap, refl, subst}
-use Rattle.std.specs.Prelude.{Result, Ok, Err}
+use Rattle.std.specs.Prelude.{true, false, Result, Ok, Err}
 use Rattle.bpl_ast.specs.declared.decl.Ast.{Ast}
 use Rattle.bpl_parse.specs.Promises.{IsExact, IsFirst, Reads}
 use Rattle.bpl_parse.specs.Told.{told}
@@ -8,7 +8,7 @@ use Rattle.bpl_parse.specs.declared.fault.ParseFault.{ParseFault}
 use Rattle.bpl_tok.specs.Lexed.{tokens_of}
 use Rattle.bpl_tok.specs.declared.token.Token.{Token}
 use Rattle.hydra_top.specs.declared.outcome.Refusal.{Refusal}
-use Rattle.hydra_top.specs.declared.outcome.Refusal.TheVariants.{NotBuilt, Words, TooLong, Lex, Parse, Typing, Flow, NoEntry}
+use Rattle.hydra_top.specs.declared.outcome.Refusal.TheVariants.{NotBuilt, Words, TooLong, Lex, Parse, Typing, Flow, NoEntry, TraceText, NotFailed, Differs}
 use Rattle.hydra_top.specs.Reading.{limit}
 use Rattle.hydra_top.specs.Trees.{HasFault, HasTree, IsReadAs}
 
@@ -51,43 +51,63 @@ one_fault bytes fault other h k =
 
 pub determined : (exact : (source : List ℕ) (tokens : List Token) → IsExact source tokens) (bytes : List ℕ) (one other : Result Ast Refusal) → IsReadAs bytes one → IsReadAs bytes other → one ≡ other
 determined exact bytes (Ok tree) (Ok other) h k = ap Ok (one_tree exact bytes tree other h.1 k.1)
-determined exact bytes (Ok tree) (Err TooLong) h k = absurd (not_both (length bytes) h.0 k)
+determined exact bytes (Ok tree) (Err (TooLong false)) h k = absurd (not_both (length bytes) h.0 k)
 determined exact bytes (Ok tree) (Err (Lex fault)) h k = let a = h.1.cut in let b = k.1 in cc
 determined exact bytes (Ok tree) (Err (Parse fault)) h k = absurd (tree_or_fault exact bytes tree fault h.1 k.1)
 determined exact bytes (Ok tree) (Err (Words wrong)) h k = absurd k
+determined exact bytes (Ok tree) (Err (TooLong true)) h k = absurd k
 determined exact bytes (Ok tree) (Err (NotBuilt part)) h k = absurd k
 determined exact bytes (Ok tree) (Err (Typing wrong)) h k = absurd k
 determined exact bytes (Ok tree) (Err (Flow wrong)) h k = absurd k
 determined exact bytes (Ok tree) (Err (NoEntry name)) h k = absurd k
-determined exact bytes (Err TooLong) (Ok tree) h k = absurd (not_both (length bytes) k.0 h)
-determined exact bytes (Err TooLong) (Err TooLong) h k = refl
-determined exact bytes (Err TooLong) (Err (Lex fault)) h k = absurd (not_both (length bytes) k.0 h)
-determined exact bytes (Err TooLong) (Err (Parse fault)) h k = absurd (not_both (length bytes) k.0 h)
-determined exact bytes (Err TooLong) (Err (Words wrong)) h k = absurd k
-determined exact bytes (Err TooLong) (Err (NotBuilt part)) h k = absurd k
-determined exact bytes (Err TooLong) (Err (Typing wrong)) h k = absurd k
-determined exact bytes (Err TooLong) (Err (Flow wrong)) h k = absurd k
-determined exact bytes (Err TooLong) (Err (NoEntry name)) h k = absurd k
+determined exact bytes (Ok tree) (Err (TraceText wrong)) h k = absurd k
+determined exact bytes (Ok tree) (Err (NotFailed status index)) h k = absurd k
+determined exact bytes (Ok tree) (Err (Differs line)) h k = absurd k
+determined exact bytes (Err (TooLong false)) (Ok tree) h k = absurd (not_both (length bytes) k.0 h)
+determined exact bytes (Err (TooLong false)) (Err (TooLong false)) h k = refl
+determined exact bytes (Err (TooLong false)) (Err (Lex fault)) h k = absurd (not_both (length bytes) k.0 h)
+determined exact bytes (Err (TooLong false)) (Err (Parse fault)) h k = absurd (not_both (length bytes) k.0 h)
+determined exact bytes (Err (TooLong false)) (Err (Words wrong)) h k = absurd k
+determined exact bytes (Err (TooLong false)) (Err (TooLong true)) h k = absurd k
+determined exact bytes (Err (TooLong false)) (Err (NotBuilt part)) h k = absurd k
+determined exact bytes (Err (TooLong false)) (Err (Typing wrong)) h k = absurd k
+determined exact bytes (Err (TooLong false)) (Err (Flow wrong)) h k = absurd k
+determined exact bytes (Err (TooLong false)) (Err (NoEntry name)) h k = absurd k
+determined exact bytes (Err (TooLong false)) (Err (TraceText wrong)) h k = absurd k
+determined exact bytes (Err (TooLong false)) (Err (NotFailed status index)) h k = absurd k
+determined exact bytes (Err (TooLong false)) (Err (Differs line)) h k = absurd k
 determined exact bytes (Err (Lex fault)) (Ok tree) h k = let a = h.1 in let b = k.1.cut in cc
-determined exact bytes (Err (Lex fault)) (Err TooLong) h k = absurd (not_both (length bytes) h.0 k)
+determined exact bytes (Err (Lex fault)) (Err (TooLong false)) h k = absurd (not_both (length bytes) h.0 k)
 determined exact bytes (Err (Lex fault)) (Err (Lex other)) h k = let a = h.1 in let b = k.1 in cc
 determined exact bytes (Err (Lex fault)) (Err (Parse other)) h k = let a = h.1 in let b = k.1.cut in cc
 determined exact bytes (Err (Lex fault)) (Err (Words wrong)) h k = absurd k
+determined exact bytes (Err (Lex fault)) (Err (TooLong true)) h k = absurd k
 determined exact bytes (Err (Lex fault)) (Err (NotBuilt part)) h k = absurd k
 determined exact bytes (Err (Lex fault)) (Err (Typing wrong)) h k = absurd k
 determined exact bytes (Err (Lex fault)) (Err (Flow wrong)) h k = absurd k
 determined exact bytes (Err (Lex fault)) (Err (NoEntry name)) h k = absurd k
+determined exact bytes (Err (Lex fault)) (Err (TraceText wrong)) h k = absurd k
+determined exact bytes (Err (Lex fault)) (Err (NotFailed status index)) h k = absurd k
+determined exact bytes (Err (Lex fault)) (Err (Differs line)) h k = absurd k
 determined exact bytes (Err (Parse fault)) (Ok tree) h k = absurd (tree_or_fault exact bytes tree fault k.1 h.1)
-determined exact bytes (Err (Parse fault)) (Err TooLong) h k = absurd (not_both (length bytes) h.0 k)
+determined exact bytes (Err (Parse fault)) (Err (TooLong false)) h k = absurd (not_both (length bytes) h.0 k)
 determined exact bytes (Err (Parse fault)) (Err (Lex other)) h k = let a = h.1.cut in let b = k.1 in cc
 determined exact bytes (Err (Parse fault)) (Err (Parse other)) h k = ap (λ f. Err (Parse f)) (one_fault bytes fault other h.1 k.1)
 determined exact bytes (Err (Parse fault)) (Err (Words wrong)) h k = absurd k
+determined exact bytes (Err (Parse fault)) (Err (TooLong true)) h k = absurd k
 determined exact bytes (Err (Parse fault)) (Err (NotBuilt part)) h k = absurd k
 determined exact bytes (Err (Parse fault)) (Err (Typing wrong)) h k = absurd k
 determined exact bytes (Err (Parse fault)) (Err (Flow wrong)) h k = absurd k
 determined exact bytes (Err (Parse fault)) (Err (NoEntry name)) h k = absurd k
+determined exact bytes (Err (Parse fault)) (Err (TraceText wrong)) h k = absurd k
+determined exact bytes (Err (Parse fault)) (Err (NotFailed status index)) h k = absurd k
+determined exact bytes (Err (Parse fault)) (Err (Differs line)) h k = absurd k
 determined exact bytes (Err (Words wrong)) other h k = absurd h
+determined exact bytes (Err (TooLong true)) other h k = absurd h
 determined exact bytes (Err (NotBuilt part)) other h k = absurd h
 determined exact bytes (Err (Typing wrong)) other h k = absurd h
 determined exact bytes (Err (Flow wrong)) other h k = absurd h
 determined exact bytes (Err (NoEntry name)) other h k = absurd h
+determined exact bytes (Err (TraceText wrong)) other h k = absurd h
+determined exact bytes (Err (NotFailed status index)) other h k = absurd h
+determined exact bytes (Err (Differs line)) other h k = absurd h

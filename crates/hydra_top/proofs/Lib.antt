@@ -1,7 +1,6 @@
 pub mod Determined
-pub mod Places
+pub mod Openings
 pub mod ReadSteps
-pub mod Searched
 pub mod Told
 pub mod TreeSteps
 pub mod WriteSteps

@@ -1,8 +1,9 @@
 pub mod Asked
+pub mod Entry
+pub mod Opened
 pub mod Reading
 pub mod Texts
 pub mod Top
-pub mod Traces
 pub mod Trees
 pub mod Words
 pub mod Writing

@@ -1,33 +1,26 @@
 -- What the program prints for an outcome, and the status with which it ends.
-use Rattle.std.specs.Prelude.{ℕ, List, [], ◌++◌, codes, decimal, slice_get, Option, None, Some, Result, Ok, Err}
-use Rattle.std.specs.Option.{option_and_then}
-use Rattle.bpl_ast.specs.declared.decl.Ast.{Ast}
+use Rattle.std.specs.Prelude.{ℕ, List, [], ◌++◌, codes, decimal}
 use Rattle.bpl_ast.specs.declared.word.Word.{Word}
 use Rattle.bpl_ast.specs.declared.word.Word.TheVariants as words
-use Rattle.bpl_flow.specs.Flow.{lowered}
-use Rattle.bpl_flow.specs.declared.fault.FlowFault.{FlowFault}
 use Rattle.bpl_flow.specs.declared.fault.FlowKind.{FlowKind}
 use Rattle.bpl_flow.specs.declared.fault.FlowKind.TheVariants.{NoLabel, LabelTwice, NotForward, BreakOutside}
 use Rattle.bpl_parse.specs.declared.fault.ParseKind.{ParseKind}
 use Rattle.bpl_parse.specs.declared.fault.ParseKind.TheVariants.{Unexpected, EndTooSoon, TooDeep, LeftOut}
-use Rattle.bpl_show.specs.Shown.{shown_text}
 use Rattle.bpl_tok.specs.declared.token.LexKind.{LexKind}
 use Rattle.bpl_tok.specs.declared.token.LexKind.TheVariants.{BadByte, OpenComment, OpenString, LiteralTooWide}
-use Rattle.bpl_type.specs.Checked.{checked}
-use Rattle.type_pass.specs.declared.fault.TypeFault.{TypeFault}
-use Rattle.type_pass.specs.declared.fault.TypeKind.{TypeKind}
-use Rattle.type_pass.specs.declared.fault.TypeKind.TheVariants as types
-use Rattle.bpl_type.specs.declared.typed.Typed.{Typed}
 use Rattle.hydra_words.specs.declared.command.WordKind.{WordKind}
 use Rattle.hydra_words.specs.declared.command.WordKind.TheVariants.{Missing, Unexpected as UnexpectedWord, NotNumber, OutOfRange, Repeated}
-use Rattle.src_prog.specs.Program.{Program, number_of}
-use Rattle.src_run.specs.declared.machine.Choice.{Choice}
+use Rattle.src_run.specs.declared.machine.Status.{Status}
+use Rattle.src_run.specs.declared.machine.Status.TheVariants.{Going, Ended, Failed, Blocked, Cut, BadChoice}
+use Rattle.trace_text.specs.Traces.{line}
+use Rattle.trace_text.specs.declared.trace.TraceKind.{TraceKind}
+use Rattle.trace_text.specs.declared.trace.TraceKind.TheVariants.{NoHead, BadLine, NoEnd, AfterEnd}
+use Rattle.type_pass.specs.declared.fault.TypeKind.{TypeKind}
+use Rattle.type_pass.specs.declared.fault.TypeKind.TheVariants as types
 use Rattle.hydra_top.specs.declared.outcome.Refusal.{Refusal}
-use Rattle.hydra_top.specs.declared.outcome.Refusal.TheVariants.{NotBuilt as NotBuiltPart, Words as WrongWords, TooLong, Lex, Parse, Typing, Flow, NoEntry}
+use Rattle.hydra_top.specs.declared.outcome.Refusal.TheVariants.{NotBuilt as NotBuiltPart, Words as WrongWords, TooLong, Lex, Parse, Typing, Flow, NoEntry, TraceText, NotFailed, Differs}
 use Rattle.hydra_top.specs.declared.outcome.Outcome.{Outcome}
 use Rattle.hydra_top.specs.declared.outcome.Outcome.TheVariants.{Safe, Bug, Done, Refused, ReadFault, WriteFault, NoMemory}
-use Rattle.hydra_top.specs.Traces.{names_asked, trace_text}
-use Rattle.trace_text.specs.Traces.{line}
 
 -- ---- refusals
 
@@ -90,66 +83,56 @@ word_words NotNumber = codes "not number"
 word_words OutOfRange = codes "out of range"
 word_words Repeated = codes "repeated"
 
--- a fault: the part that found it, the offset of the byte in the file or the number of the word, and the words of its kind
+abbrev pub trace_words : TraceKind → List ℕ
+trace_words NoHead = codes "no head"
+trace_words BadLine = codes "bad line"
+trace_words NoEnd = codes "no end"
+trace_words AfterEnd = codes "after end"
+
+-- where a run stands that doesn't fail
+abbrev pub status_words : Status → List ℕ
+status_words Going = codes "going"
+status_words Ended = codes "ended"
+status_words (Failed proc assert) = []
+status_words Blocked = codes "blocked"
+status_words Cut = codes "cut"
+status_words (BadChoice index) = codes "choice"
+
+-- a fault: the part that found it, the offset of the byte, or the number of the word or of the line, and the words of its kind
 abbrev pub fault_line : List ℕ → ℕ → List ℕ → List ℕ
 fault_line part at kind = line (codes "refused: " ++ part ++ codes " " ++ decimal at ++ codes " " ++ kind)
 
 abbrev pub refusal_text : Refusal → List ℕ
 refusal_text (WrongWords fault) = fault_line (codes "word") fault.index (word_words fault.kind)
 refusal_text (NotBuiltPart part) = line (codes "refused: not built")
-refusal_text TooLong = line (codes "refused: too long")
+refusal_text (TooLong second) = line (codes "refused: too long")
 refusal_text (Lex fault) = fault_line (codes "lex") fault.at (lex_words fault.kind)
 refusal_text (Parse fault) = fault_line (codes "parse") fault.at (parse_words fault.kind)
 refusal_text (Typing fault) = fault_line (codes "type") fault.at (type_words fault.kind)
 refusal_text (Flow fault) = fault_line (codes "flow") fault.at (flow_words fault.kind)
 refusal_text (NoEntry name) = line (codes "refused: no entry " ++ name)
+refusal_text (TraceText fault) = fault_line (codes "trace line") fault.line (trace_words fault.kind)
+refusal_text (NotFailed status index) = line (codes "refused: trace " ++ status_words status ++ codes " " ++ decimal index)
+refusal_text (Differs number) = fault_line (codes "trace line") number (codes "differs")
 
 -- ---- outcomes
 
--- the program of a flow, if it has one
-abbrev pub flowing : Result Program FlowFault → Option Program
-flowing (Ok prog) = Some prog
-flowing (Err fault) = None
-
--- the program that a checked tree is lowered to
-abbrev pub lowering : Result Typed TypeFault → Option Program
-lowering (Ok typed) = flowing (lowered typed)
-lowering (Err fault) = None
-
--- the program of a tree, if it has one
-abbrev pub program_in : Option Ast → Option Program
-program_in None = None
-program_in (Some tree) = lowering (checked tree)
-
--- the trace of a run of the procedure of this name
-abbrev pub bug_text : (entry : List ℕ) → Option Program → List Choice → ℕ → ℕ → List ℕ
-bug_text entry None choices proc assert = []
-bug_text entry (Some prog) choices proc assert = trace_text prog (names_asked prog (option_and_then (slice_get prog.procs) (number_of prog entry))) choices proc assert
-
--- a tree in its canonical form
-abbrev pub canonical : Option Ast → List ℕ
-canonical None = []
-canonical (Some tree) = shown_text tree
-
--- what is printed for an outcome about a tree, or about the runs of an entry of its program
-abbrev pub text_of : (entry : List ℕ) → Option Ast → Outcome → List ℕ
-text_of entry tree Safe = line (codes "Safe")
-text_of entry tree (Bug choices proc assert) = bug_text entry (program_in tree) choices proc assert
-text_of entry tree Done = canonical tree
-text_of entry tree (Refused refusal) = refusal_text refusal
-text_of entry tree ReadFault = line (codes "fault: read")
-text_of entry tree WriteFault = []
-text_of entry tree NoMemory = line (codes "no memory")
+-- what is printed where a trace was replayed: the procedure and the number of its assert that is false
+abbrev pub replayed_text : (proc : List ℕ) → (assert : ℕ) → List ℕ
+replayed_text proc assert = line (codes "replayed " ++ proc ++ codes " " ++ decimal assert)
 
 abbrev pub refusal_number : Refusal → ℕ
 refusal_number (WrongWords fault) = 2
 refusal_number (NotBuiltPart part) = 3
-refusal_number TooLong = 3
+refusal_number (TooLong second) = 3
 refusal_number (Lex fault) = 3
 refusal_number (Parse fault) = 3
 refusal_number (Typing fault) = 3
 refusal_number (Flow fault) = 3
 refusal_number (NoEntry name) = 3
+refusal_number (TraceText fault) = 3
+refusal_number (NotFailed status index) = 3
+refusal_number (Differs line) = 3
 
 -- the number of an outcome, which is the status of the process
 abbrev pub status_number : Outcome → ℕ

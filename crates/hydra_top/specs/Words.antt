@@ -1,5 +1,5 @@
 -- What the words ask for: a task, or why they are refused.
-use Rattle.std.specs.Prelude.{ℕ, ◌==◌, List, [], length, Result, Ok, Err, if◌then◌else◌}
+use Rattle.std.specs.Prelude.{ℕ, ◌==◌, List, length, Result, Ok, Err, if◌then◌else◌}
 use Rattle.hydra_words.specs.Words.{command_of}
 use Rattle.hydra_words.specs.declared.command.Command.{Command}
 use Rattle.hydra_words.specs.declared.command.Command.TheVariants.{Check, Solo, Replay, Show, Gen}
@@ -8,24 +8,17 @@ use Rattle.hydra_top.specs.declared.outcome.NotBuilt.TheVariants.{Words as NotBu
 use Rattle.hydra_top.specs.declared.outcome.Refusal.{Refusal}
 use Rattle.hydra_top.specs.declared.outcome.Refusal.TheVariants.{NotBuilt, Words}
 
--- what is to be done with a file: the runs of a procedure of its program, by its name, are searched within a bound, or its tree is shown
+-- What is to be done with a file: the runs of a procedure of its program, by its name, are searched within a bound; a trace that stands in another
+-- file is replayed on them; or its tree is shown.
 pub data Job : Type 0 where
   solo : (entry : List ℕ) (bound : ℕ) → Job
+  replay : (entry : List ℕ) (bound : ℕ) (trace : List ℕ) → Job
   show : Job
 
 -- what is asked: a job on the program of a file
 pub record Task : Type 0 where
   pub file : List ℕ
   pub job : Job
-
--- the name of the entry whose runs a task asks for
-abbrev pub entry_of : Job → List ℕ
-entry_of (solo entry bound) = entry
-entry_of show = []
-
-abbrev pub entry_in : Result Task Refusal → List ℕ
-entry_in (Err refusal) = []
-entry_in (Ok task) = entry_of task.job
 
 abbrev pub not_built : Result Task Refusal
 not_built = Err (NotBuilt NotBuiltWords)
@@ -38,7 +31,7 @@ solo_task count file entry bound = if count == 4 then Ok (record { file = file; 
 abbrev pub task_in : (count : ℕ) → Command → Result Task Refusal
 task_in count (Check file entry bound workers grain journal) = not_built
 task_in count (Solo file entry bound grain journal) = solo_task count file entry bound
-task_in count (Replay file entry bound trace) = not_built
+task_in count (Replay file entry bound trace) = Ok (record { file = file; job = replay entry bound trace })
 task_in count (Show file) = Ok (record { file = file; job = show })
 task_in count (Gen seed size bound) = not_built
 

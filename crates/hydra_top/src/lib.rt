@@ -2,14 +2,15 @@
 //! program does, so its contract is what the program promises.
 #![tactic(auto)]
 
-mod judging;
+mod answer;
+mod entry;
 mod laws;
-mod names;
 pub mod outcome;
 pub mod reading;
 pub mod refusal;
+mod retracing;
+mod showing;
 mod solving;
-pub mod text;
 pub mod top;
 pub mod trees;
 pub mod words;

@@ -10,12 +10,13 @@ use bpl_type::TypeFault;
 use hy_text::Text;
 use hydra_words::WordFault;
 use sqlite_items::Items;
-use src_run::Choice;
+use src_run::{Choice, Status};
+use trace_text::TraceFault;
 
 /// What of the input is not built.
 #[derive(Clone, Copy, Debug, PartialEq, Eq)]
 pub enum NotBuilt {
-    /// The words are the command `check`, `replay` or `gen`, or `solo` with an option.
+    /// The words are the command `check` or `gen`, or `solo` with an option.
     Words,
     /// The entry is not plain: there are constants or axioms; or a variable of the program or of the entry is no bool; or the entry
     /// has in-parameters, more than one block or a call; or its globals, outs, locals and the names in its `havoc` commands are
@@ -30,8 +31,8 @@ pub enum Refusal {
     Words(WordFault),
     /// What it asks for is not built.
     NotBuilt { part: NotBuilt },
-    /// The file has more than 16,777,216 bytes.
-    TooLong,
+    /// A file has more than 16,777,216 bytes: the first one, or the second, which has the trace.
+    TooLong { second: bool },
     /// The bytes of the file are no tokens: the first fault.
     Lex(LexFault),
     /// The tokens of the file are no program: the first fault.
@@ -42,6 +43,13 @@ pub enum Refusal {
     Flow(FlowFault),
     /// No procedure of the file that has a body has that name.
     NoEntry { name: Text },
+    /// The second file is no trace: its first fault.
+    TraceText(TraceFault),
+    /// The run on the trace's choices stands with this status, which isn't Failed. The index is that of the first bad choice, from
+    /// 0, where there is one, and else the number of choices.
+    NotFailed { status: Status, index: usize },
+    /// The run fails, and this line of the trace, from 1, is the first that isn't as it is printed.
+    Differs { line: usize },
 }
 
 /// What came of the words.
@@ -56,11 +64,11 @@ pub enum Outcome {
         proc: u32,
         assert: u32,
     },
-    /// The tree of the file was shown.
+    /// The tree of the file was shown, or the trace was replayed: its choices fail, and it is the printed trace of that run.
     Done,
     /// The input is refused.
     Refused(Refusal),
-    /// The file could not be opened or read.
+    /// A file could not be opened or read.
     ReadFault,
     /// The text could not be written.
     WriteFault,
@@ -111,11 +119,17 @@ fn refusal_status(refusal: &Refusal) -> u8
     match refusal {
         Refusal::Words(_) => 2,
         Refusal::NotBuilt { part: _ } => 3,
-        Refusal::TooLong => 3,
+        Refusal::TooLong { second: _ } => 3,
         Refusal::Lex(_) => 3,
         Refusal::Parse(_) => 3,
         Refusal::Typing(_) => 3,
         Refusal::Flow(_) => 3,
         Refusal::NoEntry { name: _ } => 3,
+        Refusal::TraceText(_) => 3,
+        Refusal::NotFailed {
+            status: _,
+            index: _,
+        } => 3,
+        Refusal::Differs { line: _ } => 3,
     }
 }

@@ -1,7 +1,8 @@
 //! Reading a file to its end, or to where it is too long.
 
-ghost use Rattle.std.specs.Prelude.{◌≡◌, ◌≤◌, ◌<◌, IfOk, Some, OnOk, OnErr, ◌⊎◌, ◌++◌, ◌∷◌, []};
+ghost use Rattle.std.specs.Prelude.{◌≡◌, ◌≤◌, ◌<◌, IfOk, Some, OnOk, OnErr};
 ghost use Rattle.hy_outside.specs.Outside.{Rose};
+ghost use Rattle.hydra_top.specs.Opened.{OpensOneMore, read_extent};
 ghost use Rattle.hydra_top.specs.Reading.{ReadCause, ReadsFile, ReadsLeft};
 
 use hy_outside::{Shelf, ShelfFault};
@@ -37,7 +38,8 @@ pub enum ReadEnd {
 pub fn read_file<S: Shelf>(alloc: Global, shelf: &mut S, name: &Text) -> Result<Source, ReadEnd>
     ensures file { IfOk result (λ source. ReadsFile (S.files shelf.old) name.now (S.left shelf.new) source) }
     ensures cause { ReadCause (S.faults shelf.old) (S.faults shelf.new) result }
-    ensures opened { (S.opened shelf.new ≡ S.opened shelf.old) ⊎ (S.opened shelf.new ≡ S.opened shelf.old ++ name.now ∷ []) }
+    ensures files { S.files shelf.new ≡ S.files shelf.old }
+    ensures opened { OpensOneMore (read_extent result) name.now (S.opened shelf.old) (S.opened shelf.new) }
 {
     match shelf.open(alloc, name) {
         Ok(()) => read_rest(alloc, shelf),
@@ -50,6 +52,7 @@ pub fn read_file<S: Shelf>(alloc: Global, shelf: &mut S, name: &Text) -> Result<
 fn read_rest<S: Shelf>(alloc: Global, shelf: &mut S) -> Result<Source, ReadEnd>
     ensures left { IfOk result (λ source. ReadsLeft (S.left shelf.old) (S.left shelf.new) source) }
     ensures cause { ReadCause (S.faults shelf.old) (S.faults shelf.new) result }
+    ensures files { S.files shelf.new ≡ S.files shelf.old }
     ensures opened { S.opened shelf.new ≡ S.opened shelf.old }
 {
     let mut bytes = Bytes::new(alloc);

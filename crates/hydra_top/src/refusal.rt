@@ -1,7 +1,7 @@
 //! The texts of refusals.
 
-ghost use Rattle.std.specs.Prelude.{◌≡◌, ◌++◌, IfOk, codes};
-ghost use Rattle.hydra_top.specs.Texts.{fault_line, flow_words, left_out, lex_words, parse_words, refusal_text, type_words, word_words};
+ghost use Rattle.std.specs.Prelude.{◌≡◌, ◌++◌, IfOk, codes, decimal};
+ghost use Rattle.hydra_top.specs.Texts.{fault_line, flow_words, left_out, lex_words, parse_words, refusal_text, status_words, trace_words, type_words, word_words};
 ghost use Rattle.trace_text.specs.Traces.{line};
 
 use crate::outcome::Refusal;
@@ -12,7 +12,9 @@ use bpl_tok::LexKind;
 use bpl_type::TypeKind;
 use hy_text::{Bytes, Text, put_u64};
 use hydra_words::WordKind;
+use src_run::Status;
 use std::alloc::{AllocError, Global};
+use trace_text::TraceKind;
 
 /// The line that refuses the input.
 pub fn refusal_line(alloc: Global, refusal: &Refusal) -> Result<Bytes, AllocError>
@@ -21,12 +23,20 @@ pub fn refusal_line(alloc: Global, refusal: &Refusal) -> Result<Bytes, AllocErro
     match refusal {
         Refusal::Words(fault) => fault_text(alloc, b"word", fault.index, word_text(fault.kind)),
         Refusal::NotBuilt { part: _ } => Bytes::from_slice(alloc, b"refused: not built\n"),
-        Refusal::TooLong => Bytes::from_slice(alloc, b"refused: too long\n"),
+        Refusal::TooLong { second: _ } => Bytes::from_slice(alloc, b"refused: too long\n"),
         Refusal::Lex(fault) => fault_text(alloc, b"lex", fault.at, lex_text(fault.kind)),
         Refusal::Parse(fault) => parse_line(alloc, fault.at, fault.kind),
         Refusal::Typing(fault) => type_line(alloc, fault.at, fault.kind),
         Refusal::Flow(fault) => fault_text(alloc, b"flow", fault.at, flow_text(fault.kind)),
         Refusal::NoEntry { name } => no_entry(alloc, name),
+        Refusal::TraceText(fault) => fault_text(
+            alloc,
+            b"trace line",
+            fault.line,
+            trace_kind_text(fault.kind),
+        ),
+        Refusal::NotFailed { status, index } => not_failed(alloc, *status, *index),
+        Refusal::Differs { line } => fault_text(alloc, b"trace line", *line, b"differs"),
     }
 }
 
@@ -46,7 +56,7 @@ fn type_line(alloc: Global, at: usize, kind: TypeKind) -> Result<Bytes, AllocErr
     fault_text(alloc, b"type", at, words.as_slice())
 }
 
-// The line of a fault that a part of the reader found, at an offset or a word, in the words of its kind.
+// The line of a fault that a part of the reader found, at an offset, a word or a line, in the words of its kind.
 fn fault_text(alloc: Global, part: &[u8], at: usize, kind: &[u8]) -> Result<Bytes, AllocError>
     ensures { IfOk result (λ t. t ≡ fault_line part.now at kind.now) }
 {
@@ -163,6 +173,42 @@ fn no_entry(alloc: Global, name: &Text) -> Result<Bytes, AllocError>
 {
     let mut text = Bytes::from_slice(alloc, b"refused: no entry ")?;
     text.append(name.as_bytes())?;
+    text.push(b'\n')?;
+    Ok(text)
+}
+
+fn trace_kind_text(kind: TraceKind) -> &'static [u8]
+    ensures { result.now ≡ trace_words kind }
+{
+    match kind {
+        TraceKind::NoHead => b"no head",
+        TraceKind::BadLine => b"bad line",
+        TraceKind::NoEnd => b"no end",
+        TraceKind::AfterEnd => b"after end",
+    }
+}
+
+fn status_text(status: Status) -> &'static [u8]
+    ensures { result.now ≡ status_words status }
+{
+    match status {
+        Status::Going => b"going",
+        Status::Ended => b"ended",
+        Status::Failed { proc: _, assert: _ } => b"",
+        Status::Blocked => b"blocked",
+        Status::Cut => b"cut",
+        Status::BadChoice { index: _ } => b"choice",
+    }
+}
+
+// The line that refuses a trace whose run doesn't fail.
+fn not_failed(alloc: Global, status: Status, index: usize) -> Result<Bytes, AllocError>
+    ensures { IfOk result (λ t. t ≡ line (codes "refused: trace " ++ status_words status ++ codes " " ++ decimal index)) }
+{
+    let mut text = Bytes::from_slice(alloc, b"refused: trace ")?;
+    text.append(status_text(status))?;
+    text.append(b" ")?;
+    put_u64(&mut text, index as u64)?;
     text.push(b'\n')?;
     Ok(text)
 }

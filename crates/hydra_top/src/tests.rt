@@ -1,5 +1,7 @@
 //! What the program prints on files and words.
 
+mod replaying;
+
 use super::*;
 use hy_outside::{MemShelf, MemSink, Turn};
 use hy_text::{Bytes, Text};
@@ -195,10 +197,9 @@ fn wrong_words_are_named(rt: HostRuntime) -> Result<(), Fail> {
 
 #[test]
 fn commands_that_are_not_built_are_told(rt: HostRuntime) -> Result<(), Fail> {
-    let cases: [&[&str]; 5] = [
+    let cases: [&[&str]; 4] = [
         &["check", "f", "main", "1", "1"],
         &["gen", "7", "6", "2"],
-        &["replay", "f", "main", "1", "t"],
         &["solo", "f", "main", "1", "--grain", "16"],
         &["solo", "f", "main", "1", "--journal"],
     ];

@@ -12,7 +12,16 @@ use hydra_words::Command;
 #[derive(Clone, Copy)]
 pub enum Job<'a> {
     /// To search the runs of the procedure `entry` of its program within `bound`, which is 1 to 1000.
-    Solo { entry: &'a Text, bound: u32 },
+    Solo {
+        entry: &'a Text,
+        bound: u32,
+    },
+    /// To replay the trace that stands in the file `trace` on the runs of the procedure `entry` within `bound`, which is 1 to 1000.
+    Replay {
+        entry: &'a Text,
+        bound: u32,
+        trace: &'a Text,
+    },
     /// To show its tree in the canonical form.
     Show,
 }
@@ -24,7 +33,7 @@ pub struct Task<'a> {
     pub job: Job<'a>,
 }
 
-/// The task of a command that has so many words, or None where it isn't built: `check`, `replay`, `gen`, and `solo` with an option.
+/// The task of a command that has so many words, or None where it isn't built: `check`, `gen`, and `solo` with an option.
 pub fn task_in<'a>(count: usize, command: &'a Command) -> Option<Task<'a>>
     requires { IsInRange command.now }
     ensures task { MatchOption result (task_in count command.now ≡ not_built) (λ t. task_in count command.now ≡ Ok (asked t)) }
@@ -38,12 +47,24 @@ pub fn task_in<'a>(count: usize, command: &'a Command) -> Option<Task<'a>>
             grain: _,
             journal: _,
         } => solo_task(count, file, entry, *bound),
+        Command::Replay {
+            file,
+            entry,
+            bound,
+            trace,
+        } => Some(Task {
+            file,
+            job: Job::Replay {
+                entry,
+                bound: *bound,
+                trace,
+            },
+        }),
         Command::Show { file } => Some(Task {
             file,
             job: Job::Show,
         }),
         Command::Check { .. } => None,
-        Command::Replay { .. } => None,
         Command::Gen { .. } => None,
     }
 }

@@ -8,6 +8,7 @@ invariant-loop-buffer g l = record {
   consumed : Consumes (g.S.Shelf.left l.fn.shelf) (g.S.Shelf.left l.shelf) l.bytes;
   few : length l.bytes ≤ limit + 1;
   faults : g.S.Shelf.faults l.shelf ≡ g.S.Shelf.faults l.fn.shelf;
+  files : g.S.Shelf.files l.shelf ≡ g.S.Shelf.files l.fn.shelf;
   opened : g.S.Shelf.opened l.shelf ≡ g.S.Shelf.opened l.fn.shelf;
 }
 
