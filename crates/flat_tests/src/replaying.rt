@@ -1,12 +1,15 @@
 //! The choices of run trees, what the machine says of them, and the caps on the trees.
 
+ghost use Rattle.std.specs.Prelude.{slice_get, IsSome};
+
 use crate::programs::program;
 use crate::tables::{CASES, Case};
 use crate::trees::{are_choices, tree};
 use call_tree::may_follow;
 use flat_prog::{Child, Flat, RunNode};
 use loop_extract::extract;
-use sqlite_items::Items;
+use sqlite_items::{Items, at};
+use src_prog::Prog;
 use src_run::{Choice, Status, replay};
 use std::alloc::{AllocError, Global};
 use std::test::Fail;
@@ -15,12 +18,19 @@ use trace_build::choices;
 // The choices of the tree of a case.
 fn listed(alloc: Global, case: Case) -> Result<Items<Choice>, AllocError> {
     let prog = program(alloc, case.text)?;
-    if case.entry as usize >= prog.procs().len() {
-        return Err(AllocError);
+    match at(prog.procs(), case.entry as usize) {
+        Some(_) => way_back(alloc, &prog, case),
+        None => Err(AllocError),
     }
-    let extracted = extract(alloc, &prog)?;
+}
+
+// The same of the program of a case.
+fn way_back(alloc: Global, prog: &Prog, case: Case) -> Result<Items<Choice>, AllocError>
+    requires { IsSome (slice_get prog.now.procs case.entry) }
+{
+    let extracted = extract(alloc, prog)?;
     let found = tree(alloc, case.rows)?;
-    choices(alloc, &prog, &extracted.flat, case.entry, &found)
+    choices(alloc, prog, &extracted.flat, case.entry, &found)
 }
 
 // The status of the machine on choices, for the program, the entry and the bound of a case.

@@ -1,11 +1,14 @@
 //! Programs at size: many loops in a row, loops nested deep, a long chain of procedures, and a long run tree.
 
+ghost use Rattle.std.specs.Prelude.{slice_get, IsSome};
+
 use crate::programs::program;
 use crate::trees::tree_of;
 use flat_prog::{Child, RunNode, RunTree};
 use hy_val::{Atom, BitVec, Value, Width};
 use loop_extract::extract;
-use sqlite_items::Items;
+use sqlite_items::{Items, at};
+use src_prog::Prog;
 use src_run::{Choice, Status, replay};
 use std::alloc::{AllocError, Global};
 use std::test::Fail;
@@ -127,14 +130,24 @@ fn chain(alloc: Global, count: u32) -> Result<RunTree, AllocError> {
 fn chain_replayed(alloc: Global, count: u32) -> Result<(usize, Status), AllocError> {
     let text = chain_of_procs(alloc, count)?;
     let prog = program(alloc, text.as_slice())?;
+    let found = match at(prog.procs(), 0) {
+        Some(_) => chain_choices(alloc, &prog, count)?,
+        None => return Err(AllocError),
+    };
     if prog.procs().is_empty() {
         return Err(AllocError);
     }
-    let extracted = extract(alloc, &prog)?;
-    let run = chain(alloc, count)?;
-    let found: Items<Choice> = choices(alloc, &prog, &extracted.flat, 0, &run)?;
     let status = replay(alloc, &prog, 0, 1, found.as_slice())?;
     Ok((found.len(), status))
+}
+
+// The choices of the failing run of the chain.
+fn chain_choices(alloc: Global, prog: &Prog, count: u32) -> Result<Items<Choice>, AllocError>
+    requires { IsSome (slice_get prog.now.procs 0) }
+{
+    let extracted = extract(alloc, prog)?;
+    let run = chain(alloc, count)?;
+    choices(alloc, prog, &extracted.flat, 0, &run)
 }
 
 // Each node has a value and a place.

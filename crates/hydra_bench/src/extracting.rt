@@ -1,8 +1,12 @@
 //! Extraction of loops from programs of a shape and a size, and the way back from a failing run tree.
 
+ghost use Rattle.std.specs.Prelude.{slice_get, IsSome};
+
 use crate::runs::failing;
 use crate::shapes::{Shape, program};
 use loop_extract::extract;
+use sqlite_items::at;
+use src_prog::Prog;
 use std::alloc::{AllocError, Global};
 use trace_build::choices;
 
@@ -69,12 +73,19 @@ pub struct WayBack {
 /// and the choices of that tree.
 pub fn back(alloc: Global, size: u32) -> Result<WayBack, AllocError> {
     let prog = program(alloc, Shape::Rows, size as u64)?;
-    if prog.procs().is_empty() {
-        return Err(AllocError);
+    match at(prog.procs(), 0) {
+        Some(_) => way_back(alloc, &prog, size),
+        None => Err(AllocError),
     }
-    let extracted = extract(alloc, &prog)?;
+}
+
+// The same of a program that is made.
+fn way_back(alloc: Global, prog: &Prog, size: u32) -> Result<WayBack, AllocError>
+    requires { IsSome (slice_get prog.now.procs 0) }
+{
+    let extracted = extract(alloc, prog)?;
     let run = failing(alloc, size)?;
-    let found = choices(alloc, &prog, &extracted.flat, 0, &run)?;
+    let found = choices(alloc, prog, &extracted.flat, 0, &run)?;
     Ok(WayBack {
         nodes: run.nodes().len(),
         choices: found.len(),
