@@ -1,0 +1,17 @@
+pub mod Table
+pub mod Cover
+pub mod Well
+pub mod Journal
+pub mod Kept
+pub mod Shaping
+pub mod Measure
+pub mod Settled
+pub mod Finding
+pub mod Verdict
+pub mod Seen
+pub mod Halves
+pub mod Steps
+pub mod Runs
+pub mod OnWays
+pub mod Counts
+pub mod Parting

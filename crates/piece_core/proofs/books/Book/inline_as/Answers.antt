@@ -1,0 +1,31 @@
+use Rattle.std.specs.Prelude.{vec_capacity, Option}
+use Rattle.std.specs.Arc.{arc_value}
+use Rattle.std.proofs.Common.{◌≡◌, ℕ, ◌+◌, ◌-◌, ◌<◌, ◌≤◌, length, List, [], ◌∷◌, ◌++◌, drop, set, Some, None, arith, sym, ap, ◌∙◌, subst, length-append, refl, le_refl}
+use Rattle.flat_prog.specs.Nodes.{run_of}
+use Rattle.piece_core.specs.declared.leaves.Leaf.{Leaf}
+use Rattle.piece_core.specs.Refusals.{back_refusal, take_refusal}
+use Rattle.piece_core.specs.Book.{Ledger, Booked, Same, settled_of}
+use Rattle.piece_core.proofs.Seen.{taken_of, Taken, free_of, Free, seen_of, Seen, no_refusal}
+use Rattle.piece_core.proofs.Steps.{held_some, did_back, did_take, did_close, did_find, did_inline, did_split, Did, spare_same, spare_less, no_move}
+use Rattle.piece_core.proofs.books.Book.inline_as.Goals as goal
+
+pub push_reserved-requires : goal.push_reserved-requires
+push_reserved-requires c =
+    let room = c.in-Ok-room_for_one.ensures.room in
+    let long = c.room_for_one.new.journal.ok.0 in
+    let same = ap length c.room_for_one.ensures.same in
+    omega arith
+
+pub invariant_of-self-2 : goal.invariant_of-self-2
+invariant_of-self-2 c =
+    let no = no_refusal (arc_value c.self.inside.task) _ c.self.inside.nodes.items _ c.args.worker c.args.sight.now _ c.refuse_event.ensures c.deref.ensures c.as_slice.ensures.value c.in_default.is in
+    let t = seen_of (arc_value c.self.inside.task) c.self.inside.nodes.items c.args.worker c.args.sight.now no in
+    let d = did_inline (arc_value c.self.inside.task) c.self.inside.nodes.items c.self.inside.journal.items c.self.inside.held (vec_capacity c.self.inside.journal) _ c.args.worker c.args.sight.now c.args.sites.now c.requires.may.0 t c.self.invariant.0 c.in-Ok-room_for_one.ensures.room c.requires.may.1 in
+    rw (c.set_tree.ensures t.leaf t.at, c.push_reserved.ensures.items, c.push_reserved.ensures.capacity, c.room_for_one.ensures.same, c.noted.ensures, c.in-Ok.ensures.0, c.in-Ok.ensures.1, c.in-Ok.ensures.2) (d.kept, d.indexed c.self.inside.firsts.items c.self.inside.settled c.self.inside.settled c.self.inside.found c.self.invariant.1 (no_move c.self.inside.nodes.items c.self.inside.journal.items c.self.inside.firsts.items c.self.inside.settled c.self.inside.found c.args.sight.now.node t.leaf (record t.leaf { tree = c.args.sight.now.tree ++ c.args.sites.now; inlined = c.args.sight.now.inlined + length c.args.sites.now }) c.self.invariant.1 t.at t.live t.live))
+
+pub returns : goal.returns
+returns c =
+    let no = no_refusal (arc_value c.self.inside.task) _ c.self.inside.nodes.items _ c.args.worker c.args.sight.now _ c.refuse_event.ensures c.deref.ensures c.as_slice.ensures.value c.in_default.is in
+    let t = seen_of (arc_value c.self.inside.task) c.self.inside.nodes.items c.args.worker c.args.sight.now no in
+    let d = did_inline (arc_value c.self.inside.task) c.self.inside.nodes.items c.self.inside.journal.items c.self.inside.held (vec_capacity c.self.inside.journal) _ c.args.worker c.args.sight.now c.args.sites.now c.requires.may.0 t c.self.invariant.0 c.in-Ok-room_for_one.ensures.room c.requires.may.1 in
+    rw (← c.self.view_is, c.set_tree.ensures t.leaf t.at, c.push_reserved.ensures.items, c.push_reserved.ensures.capacity, c.room_for_one.ensures.same, c.noted.ensures, c.in-Ok.ensures.0, c.in-Ok.ensures.1, c.in-Ok.ensures.2) (no, record { task = refl; nodes = d.is; entries = refl }, d.falls refl)
