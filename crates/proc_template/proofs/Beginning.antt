@@ -85,9 +85,6 @@ adds_one old new s t is at_end = λ ss e.
       ap (λ (i : ℕ). i ∷ []) (at_end ∙ count),
     )
 
-pub adds_none : (old : List TermNode) → Adds old [] old []
-adds_none old = λ ss e. (e ∙ ap first_nodes (sym (append-nil ss)), refl)
-
 pub adds_both : (old mid new : List TermNode) (xs ys : List Sort) (ts us : List ℕ) → Adds old xs mid ts → Adds mid ys new us → Adds old (xs ++ ys) new (ts ++ us)
 adds_both old mid new xs ys ts us h k = λ ss e.
     let one = h ss e in
@@ -116,20 +113,11 @@ take_next [] d i l = absurd (omega (arith, l))
 take_next (x ∷ xs) d zero l = refl
 take_next (x ∷ xs) d (suc i) l = ap (λ ys. x ∷ ys) (take_next xs d i (omega (arith, l)))
 
-take_rest : (xs : List Sort) (i : ℕ) → length xs ≤ i → take i xs ≡ xs
-take_rest [] zero l = refl
-take_rest [] (suc i) l = refl
-take_rest (x ∷ xs) zero l = absurd (omega (arith, l))
-take_rest (x ∷ xs) (suc i) l = ap (λ ys. x ∷ ys) (take_rest xs i (omega (arith, l)))
-
 pub adds_next : (old mid new : List TermNode) (ss : List Sort) (i : ℕ) (s : Sort) (ts us : List ℕ) (t : ℕ) → i < length ss → s ≡ slice_index_or ss i s → us ≡ ts ++ t ∷ [] → Adds old (take i ss) mid ts → Adds mid (s ∷ []) new (t ∷ []) → Adds old (take (i + 1) ss) new us
 adds_next old mid new ss i s ts us t l is pushed h k =
     let n : i + 1 ≡ suc i = omega arith in
     let more : take (i + 1) ss ≡ take i ss ++ s ∷ [] = ap (λ m. take m ss) n ∙ take_next ss s i l ∙ ap (λ x. take i ss ++ x ∷ []) (sym is) in
     subst (λ (xs : List Sort). Adds old xs new us) (sym more) (subst (λ (vs : List ℕ). Adds old (take i ss ++ s ∷ []) new vs) (sym pushed) (adds_both old mid new (take i ss) (s ∷ []) ts (t ∷ []) h k))
-
-pub adds_whole : (old new : List TermNode) (ss : List Sort) (i : ℕ) (ts : List ℕ) → length ss ≤ i → Adds old (take i ss) new ts → Adds old ss new ts
-adds_whole old new ss i ts l h = subst (λ (xs : List Sort). Adds old xs new ts) (take_rest ss i l) h
 
 -- ---- constants, globals and ins
 

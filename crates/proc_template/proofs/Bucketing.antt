@@ -11,9 +11,6 @@ use Rattle.tree_terms.specs.Tables.{row, IsPushed}
 use Rattle.tree_terms.specs.declared.linked.SiteTerms.{SiteTerms}
 use Rattle.proc_template.specs.Sites.{place_if, places_in, IsNoted, IsBucketed, sites_at, sites_of_block, site_terms, site_if, sorted_sites}
 
-not_same : (m n : ℕ) → (n ≡ m → ⊥) → nat_eq m n ≡ false
-not_same m n h = grind (arith, nat_tests, h)
-
 other_block : (m n : ℕ) → n < m → nat_eq m n ≡ false
 other_block m n l = grind (arith, nat_tests, l)
 

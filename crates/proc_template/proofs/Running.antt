@@ -26,7 +26,7 @@ use Rattle.vc_gen.specs.Instance.{run_values, EndsFrom, FailsFrom}
 use Rattle.vc_gen.specs.Whole.{PassiveReady}
 use Rattle.tree_terms.specs.declared.linked.EdgeTerms.{EdgeTerms}
 use Rattle.tree_terms.specs.declared.linked.Template.{Template}
-use Rattle.proc_template.specs.Runs.{passed, track_at, consts_at, call_at, sites_at, SaysRun, EndsAreRuns, FailuresAreRuns}
+use Rattle.proc_template.specs.Runs.{passed, track_at, consts_at, call_at, sites_at, SaysRun, EndsAreRuns, FailuresAreRuns, BitsAreNeverBoth}
 use Rattle.proc_template.specs.Starting.{first_actuals, first_sorts}
 use Rattle.proc_template.specs.Template.{IsTemplateOf, IsMadeOf, template_from}
 use Rattle.proc_template.specs.Track.{edges_with}
@@ -206,3 +206,12 @@ failures_are_runs laws = λ flat limits proc t a is are h fit on x y.
         taken_are = s.9 ∙ ap (λ ns. take (length s.2) (run_values full q order (length (first_sorts p)) a ns)) (sym g.path_is);
       },
     )
+
+pub never_both : PassiveReady → BitsAreNeverBoth
+never_both ready = λ flat limits proc t a is h fit on.
+    let i = h.made.instance in
+    let made = h.made.made in
+    let order = h.passive_is.order in
+    let there = (ready flat limits proc h.q h.passive is h.proc_is h.passive_is).1.there in
+    let bit : is_on (value a t.nodes i.ended) ≡ true = sym (ap (λ (x : Template). is_on (value a t.nodes x.ends)) made) ∙ on in
+    ap (λ (x : Template). is_on (value a t.nodes x.fails)) made ∙ h.made.instance_is.one (limited flat limits) h.q order h.passive_is.is there a fit bit

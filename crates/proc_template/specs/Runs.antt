@@ -1,5 +1,5 @@
 -- The runs of a procedure that the values of its formula's variables say.
-use Rattle.std.specs.Prelude.{◌≡◌, ℕ, ◌+◌, true, Bool, List, [], ◌∷◌, map, filter, length, take, IsTrue}
+use Rattle.std.specs.Prelude.{◌≡◌, ℕ, ◌+◌, true, false, Bool, List, [], ◌∷◌, map, filter, length, take, IsTrue}
 use Rattle.hy_val.specs.Values.{at, is_on}
 use Rattle.hy_val.specs.declared.value.Value.{Value}
 use Rattle.hy_term.specs.Meaning.{fits, value, values}
@@ -71,3 +71,8 @@ abbrev pub FailuresAreRuns : Type 0
 FailuresAreRuns =
     (flat : FlatProgram) (limits : List (List Bool)) (proc : ℕ) (t : Template) (a : ℕ → Value) → IsFlat flat → AreLimits flat limits → (h : IsTemplateOf flat limits proc t) → IsTrue (fits a t.nodes) → is_on (value a t.nodes t.fails) ≡ true →
     (x y : ℕ) → (p : ℕ) × (n : ℕ) × SaysRun flat limits proc t h a (map (recast x y) (given_back (sites_at h a))) (Broken p n)
+
+-- the two bits are never true at once
+abbrev pub BitsAreNeverBoth : Type 0
+BitsAreNeverBoth =
+    (flat : FlatProgram) (limits : List (List Bool)) (proc : ℕ) (t : Template) (a : ℕ → Value) → IsFlat flat → IsTemplateOf flat limits proc t → IsTrue (fits a t.nodes) → is_on (value a t.nodes t.ends) ≡ true → is_on (value a t.nodes t.fails) ≡ false

@@ -1,5 +1,5 @@
 //! Laws of formulas of procedures, each the contract of a function that does nothing.
-ghost use Rattle.proc_template.specs.Runs.{EndsAreRuns, FailuresAreRuns};
+ghost use Rattle.proc_template.specs.Runs.{BitsAreNeverBoth, EndsAreRuns, FailuresAreRuns};
 ghost use Rattle.proc_template.specs.Shape.{TemplatesAreShaped};
 
 use hy_term::each_node_has_its_value;
@@ -31,4 +31,11 @@ pub fn failures_are_runs()
     each_node_has_its_value();
     passive_forms_are_ready();
     plain_runs_are_runs();
+}
+
+/// The bits that say that the run ends and that it fails are never both true.
+pub fn bits_are_never_both()
+    ensures { BitsAreNeverBoth }
+{
+    passive_forms_are_ready();
 }

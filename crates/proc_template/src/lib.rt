@@ -9,5 +9,5 @@ mod sites;
 mod starting;
 mod track;
 
-pub use laws::{ends_are_runs, failures_are_runs, templates_are_shaped};
+pub use laws::{bits_are_never_both, ends_are_runs, failures_are_runs, templates_are_shaped};
 pub use making::{make_template, templates};

@@ -1,5 +1,5 @@
 use Rattle.std.proofs.Common.{take}
-use Rattle.proc_template.proofs.Beginning.{adds_none, adds_next, adds_whole, are_take, begun_still, next_is_sort}
+use Rattle.proc_template.proofs.Beginning.{adds_next, are_take, begun_still, next_is_sort}
 use Rattle.proc_template.proofs.starting.add_variables.Goals as goal
 
 pub add_variable-requires-clause-begun : goal.add_variable-requires-clause-begun
