@@ -1,0 +1,12 @@
+pub mod Beginning
+pub mod Ready
+pub mod Unique
+pub mod Shaped
+pub mod Begins
+pub mod Passing
+pub mod Actual
+pub mod Running
+pub mod Lookups
+pub mod Bucketing
+pub mod Layouts
+pub mod Listing
