@@ -1,6 +1,6 @@
 -- A variable for each constant, global and in, behind the literal true.
 use Rattle.std.proofs.Common.{◌≡◌, ℕ, zero, suc, ◌+◌, ◌-◌, ◌<◌, ◌≤◌, Bool, true, false, List, [], ◌∷◌, ◌++◌, length, take, arith, sym, ◌∙◌, ap, refl, subst, append-nil, append_assoc, length-append}
-use Rattle.std.specs.Prelude.{Option, None, Some, slice_get, slice_index_or, nat_lt, nat_eq, IsTrue, IsSome, is_some, if◌then◌else◌, ◌&&◌}
+use Rattle.std.specs.Prelude.{Option, None, Some, slice_index_or, nat_eq, IsTrue, is_some, if◌then◌else◌, ◌&&◌}
 use Rattle.std.specs.Option.{option_and_then}
 use Rattle.std.proofs.lemmas.Bool.Decides.{nat_tests}
 use Rattle.hy_val.specs.NodeSorts.{is_sort}

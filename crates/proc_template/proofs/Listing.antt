@@ -1,5 +1,5 @@
 -- Formulas in the order of their procedures.
-use Rattle.std.proofs.Common.{arith, ◌≡◌, ℕ, zero, suc, ◌+◌, List, [], ◌∷◌, ◌++◌, length, length-append, sym, ap, ◌∙◌, refl, subst}
+use Rattle.std.proofs.Common.{◌≡◌, ℕ, zero, suc, ◌+◌, List, [], ◌∷◌, ◌++◌, length, length-append, sym, ap, ◌∙◌, subst}
 use Rattle.std.specs.Prelude.{Bool, Some, slice_get}
 use Rattle.flat_prog.specs.Program.{FlatProgram}
 use Rattle.tree_terms.specs.declared.linked.Template.{Template}

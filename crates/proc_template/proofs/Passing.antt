@@ -1,6 +1,6 @@
 -- The path of a run is read off the bits of the edges.
-use Rattle.std.proofs.Common.{◌≡◌, ℕ, zero, suc, Bool, true, false, ◌&&◌, List, [], ◌∷◌, ◌++◌, map, length, sym, ap, ◌∙◌, refl, subst, eq-eqb}
-use Rattle.std.specs.Prelude.{Option, None, Some, slice_get, if◌then◌else◌, filter, nat_eq}
+use Rattle.std.proofs.Common.{◌≡◌, ℕ, Bool, true, false, List, [], ◌∷◌, ◌++◌, map, sym, ap, ◌∙◌, refl}
+use Rattle.std.specs.Prelude.{Option, None, Some, slice_get, if◌then◌else◌}
 use Rattle.std.specs.Option.{option_and_then}
 use Rattle.std.proofs.lemmas.Bool.Decides.{nat_tests}
 use Rattle.std.proofs.Common.{arith}

@@ -1,5 +1,5 @@
 -- The passive form of a procedure of a flat program is one of which a formula is made.
-use Rattle.std.proofs.Common.{arith, ◌+◌, ◌-◌, ◌≤◌, append-nil, append_assoc, length-append, ◌≡◌, ℕ, zero, suc, ◌<◌, Bool, true, false, ◌&&◌, ◌||◌, List, [], ◌∷◌, ◌++◌, length, eq-eqb, sym, ap, ◌∙◌, refl, subst}
+use Rattle.std.proofs.Common.{arith, ◌+◌, ◌-◌, ◌≤◌, append-nil, append_assoc, length-append, ◌≡◌, ℕ, zero, suc, ◌<◌, Bool, true, false, ◌||◌, List, [], ◌∷◌, ◌++◌, length, eq-eqb, sym, ap, ◌∙◌, refl, subst}
 use Rattle.std.specs.Prelude.{slice_get, slice_index_or, Option, Some, All, nat_eq, nat_lt, is_some, IsTrue}
 use Rattle.std.specs.Option.{option_and_then}
 use Rattle.std.specs.List.{list_all}

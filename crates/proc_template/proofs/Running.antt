@@ -1,5 +1,5 @@
 -- Where a formula's bit is true that the run ends, or that it fails, there is such a run.
-use Rattle.std.proofs.Common.{arith, ◌≡◌, ℕ, zero, suc, ◌+◌, ◌≤◌, Bool, true, List, [], ◌∷◌, ◌++◌, map, length, take, sym, ap, ◌∙◌, refl, subst, length-append}
+use Rattle.std.proofs.Common.{arith, ◌≡◌, ℕ, ◌+◌, Bool, true, List, [], ◌∷◌, ◌++◌, map, length, take, sym, ap, ◌∙◌, refl, length-append}
 use Rattle.std.specs.Prelude.{Option, Some, slice_get, IsTrue}
 use Rattle.hy_val.specs.Stores.{have_sorts}
 use Rattle.hy_val.specs.Values.{at, is_on}
@@ -8,27 +8,23 @@ use Rattle.hy_term.specs.Laws.{EachNodeHasItsValue}
 use Rattle.hy_term.specs.Meaning.{fits, value, values}
 use Rattle.hy_term.specs.Variables.{reads}
 use Rattle.hy_term.specs.declared.node.TermNode.{TermNode}
-use Rattle.flat_prog.specs.Limits.{AreLimits}
 use Rattle.flat_prog.specs.declared.block.FlatBlock.{FlatBlock}
-use Rattle.flat_prog.specs.Local.{edges_of, Begins, Broken, Ended, Request, Result, Track, State as FlatState}
+use Rattle.flat_prog.specs.Local.{edges_of, Broken, Ended, Result}
 use Rattle.flat_prog.specs.Program.{FlatProgram}
-use Rattle.flat_prog.specs.Shape.{IsFlat}
 use Rattle.flat_prog.specs.declared.proc.FlatProc.{FlatProc}
 use Rattle.passive_form.specs.Limited.{limited}
 use Rattle.passive_form.specs.Local.{State, LocalEnds, LocalFails, start, walk}
 use Rattle.flat_prog.specs.Sites.{numbers_from}
-use Rattle.passive_form.specs.Making.{passive_of}
 use Rattle.passive_form.specs.SameRuns.{in_env, wides, PlainRun}
 use Rattle.passive_form.specs.declared.Passive.{Passive}
-use Rattle.vc_gen.specs.BlockPlans.{recast}
-use Rattle.vc_gen.specs.Exact.{asked, given_back, true_edges}
-use Rattle.vc_gen.specs.Instance.{run_values, EndsFrom, FailsFrom}
+use Rattle.vc_gen.specs.Exact.{true_edges}
+use Rattle.vc_gen.specs.Instance.{run_values}
 use Rattle.vc_gen.specs.Whole.{PassiveReady}
 use Rattle.tree_terms.specs.declared.linked.EdgeTerms.{EdgeTerms}
 use Rattle.tree_terms.specs.declared.linked.Template.{Template}
-use Rattle.proc_template.specs.Runs.{passed, track_at, consts_at, call_at, sites_at, SaysRun, EndsAreRuns, FailuresAreRuns, BitsAreNeverBoth}
+use Rattle.proc_template.specs.Runs.{passed, track_at, consts_at, call_at, EndsAreRuns, FailuresAreRuns, BitsAreNeverBoth}
 use Rattle.proc_template.specs.Starting.{first_actuals, first_sorts}
-use Rattle.proc_template.specs.Template.{IsTemplateOf, IsMadeOf, template_from}
+use Rattle.proc_template.specs.Template.{IsTemplateOf, template_from}
 use Rattle.proc_template.specs.Track.{edges_with}
 use Rattle.proc_template.proofs.Actual.{first_values, first_sorted}
 use Rattle.proc_template.proofs.Begins.{BeginsAs, begins_as}

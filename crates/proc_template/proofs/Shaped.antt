@@ -1,5 +1,5 @@
 -- The formula of a procedure is shaped as its signatures say.
-use Rattle.std.proofs.Common.{arith, ◌≡◌, ℕ, zero, suc, ◌+◌, ◌<◌, Bool, true, false, List, [], ◌∷◌, ◌++◌, map, length, sym, ap, ◌∙◌, refl, subst}
+use Rattle.std.proofs.Common.{◌≡◌, ℕ, zero, suc, ◌+◌, Bool, true, false, List, [], ◌∷◌, ◌++◌, map, length, sym, ap, subst}
 use Rattle.std.specs.Prelude.{slice_get, Some, None, Option, nat_eq, if◌then◌else◌}
 use Rattle.hy_val.specs.declared.sort.Sort.{Sort}
 use Rattle.hy_term.specs.TermSorts.{sort_at}
@@ -8,8 +8,8 @@ use Rattle.flat_prog.specs.Program.{FlatProgram, outs_at}
 use Rattle.flat_prog.specs.Shape.{IsFlat, place_at}
 use Rattle.flat_prog.specs.declared.block.FlatBlock.{FlatBlock}
 use Rattle.flat_prog.specs.declared.proc.FlatProc.{FlatProc}
-use Rattle.passive_form.specs.Limited.{Limited, limited}
-use Rattle.vc_gen.specs.Emit.{AllBefore, AllBehind, SiteThere, SitesThere, FailsThere}
+use Rattle.passive_form.specs.Limited.{limited}
+use Rattle.vc_gen.specs.Emit.{AllBehind, SiteThere, SitesThere, FailsThere}
 use Rattle.vc_gen.specs.Exact.{EdgesThere}
 use Rattle.vc_gen.specs.Items.{bool_sort}
 use Rattle.vc_gen.specs.Signed.{SiteSigned, SitesSigned}

@@ -1,5 +1,5 @@
 -- Each variable of a formula is one node.
-use Rattle.std.proofs.Common.{arith, ◌≡◌, ℕ, zero, suc, ◌+◌, ◌<◌, ◌≤◌, List, [], ◌∷◌, ◌++◌, length, sym, ap, ◌∙◌, refl}
+use Rattle.std.proofs.Common.{arith, ◌≡◌, ℕ, zero, suc, ◌+◌, ◌≤◌, List, [], ◌∷◌, ◌++◌, length, sym, ap, ◌∙◌, refl}
 use Rattle.std.specs.Prelude.{slice_get, Some}
 use Rattle.hy_val.specs.declared.sort.Sort.{Sort}
 use Rattle.hy_term.specs.declared.node.TermNode.{TermNode}

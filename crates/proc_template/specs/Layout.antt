@@ -1,6 +1,6 @@
 -- What the variables of a formula stand for, in the order of their numbers: constants, globals and ins, what the begin takes, and for each block in turn
 -- what its havocs take, what its calls give back, and its choices of a target.
-use Rattle.std.specs.Prelude.{ℕ, ◌+◌, Bool, true, false, List, [], ◌∷◌, ◌++◌, map, length, take, replicate, slice_index, slice_index_or, slice_set, if◌then◌else◌}
+use Rattle.std.specs.Prelude.{ℕ, ◌+◌, Bool, false, List, [], ◌∷◌, ◌++◌, map, length, take, replicate, slice_index, slice_index_or, slice_set, if◌then◌else◌}
 use Rattle.hy_val.specs.declared.sort.Sort.{Sort}
 use Rattle.flat_prog.specs.declared.block.FlatBlock.{FlatBlock}
 use Rattle.flat_prog.specs.Sites.{sites_of, numbers_from}

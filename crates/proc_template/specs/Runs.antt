@@ -1,5 +1,5 @@
 -- The runs of a procedure that the values of its formula's variables say.
-use Rattle.std.specs.Prelude.{◌≡◌, ℕ, ◌+◌, true, false, Bool, List, [], ◌∷◌, map, filter, length, take, IsTrue}
+use Rattle.std.specs.Prelude.{◌≡◌, ℕ, ◌+◌, true, false, Bool, List, ◌∷◌, map, filter, length, take, IsTrue}
 use Rattle.hy_val.specs.Values.{at, is_on}
 use Rattle.hy_val.specs.declared.value.Value.{Value}
 use Rattle.hy_term.specs.Meaning.{fits, value, values}

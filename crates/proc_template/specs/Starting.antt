@@ -1,5 +1,5 @@
 -- The variables with which a formula begins: one for each constant, global and in, numbered from 0 in this order, behind the literal true.
-use Rattle.std.specs.Prelude.{◌≡◌, ℕ, ◌+◌, true, List, [], ◌∷◌, ◌++◌, length}
+use Rattle.std.specs.Prelude.{◌≡◌, ℕ, ◌+◌, true, List, ◌∷◌, ◌++◌, length}
 use Rattle.hy_val.specs.declared.atom.AtomKind.TheVariants.{Bool as BoolAtom}
 use Rattle.hy_val.specs.declared.sort.Sort.{Sort}
 use Rattle.hy_term.specs.declared.node.TermNode.{TermNode}

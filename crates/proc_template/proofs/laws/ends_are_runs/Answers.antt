@@ -1,4 +1,4 @@
-use Rattle.proc_template.proofs.Running.{Laws, ends_are_runs as runs}
+use Rattle.proc_template.proofs.Running.{ends_are_runs as runs}
 use Rattle.proc_template.proofs.laws.ends_are_runs.Goals as goal
 
 pub returns : goal.returns

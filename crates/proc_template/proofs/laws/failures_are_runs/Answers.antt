@@ -1,4 +1,4 @@
-use Rattle.proc_template.proofs.Running.{Laws, failures_are_runs as runs}
+use Rattle.proc_template.proofs.Running.{failures_are_runs as runs}
 use Rattle.proc_template.proofs.laws.failures_are_runs.Goals as goal
 
 pub returns : goal.returns

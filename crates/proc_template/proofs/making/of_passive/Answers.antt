@@ -1,12 +1,8 @@
-use Rattle.std.proofs.Common.{ap, sym, subst, refl, ◌∙◌, ◌≡◌, ◌-◌, List, length}
+use Rattle.std.proofs.Common.{ap, ◌∙◌, ◌-◌, List, length}
 use Rattle.hy_term.specs.declared.node.TermNode.{TermNode}
-use Rattle.tree_terms.specs.declared.linked.SiteTerms.{SiteTerms}
-use Rattle.tree_terms.specs.declared.linked.Role.{Role}
-use Rattle.tree_terms.specs.declared.linked.TrackTerms.{TrackTerms}
 use Rattle.vc_gen.specs.declared.parts.SiteTerm.{SiteTerm}
-use Rattle.proc_template.specs.Layout.{layout_of}
 use Rattle.proc_template.specs.Sites.{sorted_sites}
-use Rattle.proc_template.specs.Template.{IsInstanceOf, IsMadeOf}
+use Rattle.proc_template.specs.Template.{IsInstanceOf}
 use Rattle.proc_template.specs.Track.{track_of}
 use Rattle.proc_template.specs.declared.layout.Layout.{Layout}
 use Rattle.proc_template.proofs.Ready.{instance_asked, instance_said, next_is, made_of}

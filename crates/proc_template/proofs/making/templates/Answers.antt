@@ -1,4 +1,4 @@
-use Rattle.std.proofs.Common.{arith, ap, ◌≡◌, length}
+use Rattle.std.proofs.Common.{arith, ap, length}
 use Rattle.proc_template.proofs.Listing.{templates_next}
 use Rattle.proc_template.proofs.making.templates.Goals as goal
 

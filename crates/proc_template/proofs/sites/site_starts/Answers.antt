@@ -1,4 +1,4 @@
-use Rattle.std.proofs.Common.{ap, ◌∙◌, ◌++◌, ◌∷◌, [], length}
+use Rattle.std.proofs.Common.{ap, ◌∙◌, ◌++◌, ◌∷◌, []}
 use Rattle.flat_prog.specs.Sites.{calls_of}
 use Rattle.proc_template.proofs.Bucketing.{starts_next}
 use Rattle.proc_template.proofs.sites.site_starts.Goals as goal

@@ -1,4 +1,4 @@
-use Rattle.std.proofs.Common.{sym, ap, ◌∙◌}
+use Rattle.std.proofs.Common.{◌∙◌}
 use Rattle.proc_template.proofs.Bucketing.{sorted_next}
 use Rattle.proc_template.proofs.sites.sorted_sites.Goals as goal
 

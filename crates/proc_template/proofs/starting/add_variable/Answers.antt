@@ -1,4 +1,4 @@
-use Rattle.std.proofs.Common.{ap, sym, subst, ◌∙◌, ◌≡◌, ◌-◌, ◌++◌, ◌∷◌, [], List, length, IsTrue}
+use Rattle.std.proofs.Common.{ap, sym, subst, ◌∙◌, ◌-◌, ◌++◌, ◌∷◌, [], List, length, IsTrue}
 use Rattle.hy_term.specs.TermSorts.{fits_behind}
 use Rattle.hy_term.specs.declared.node.TermNode.{TermNode}
 use Rattle.hy_term.specs.declared.node.TermNode.TheVariants.{Variable}

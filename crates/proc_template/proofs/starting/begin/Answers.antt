@@ -1,4 +1,4 @@
-use Rattle.std.proofs.Common.{sym, subst, ◌≡◌, ◌++◌, List, []}
+use Rattle.std.proofs.Common.{sym, subst, ◌++◌, List, []}
 use Rattle.hy_val.specs.declared.sort.Sort.{Sort}
 use Rattle.vc_gen.specs.Items.{AreSorts}
 use Rattle.proc_template.specs.Starting.{Adds, IsBegun}
