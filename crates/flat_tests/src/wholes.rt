@@ -51,11 +51,11 @@ fn flat_programs_are_told_apart(rt: HostRuntime) -> Result<(), Fail> {
 }
 
 // The numbers of a procedure's blocks in their order, ascending.
-fn ordered(alloc: Global, flat: &Flat, proc: usize) -> Result<Vec<u32>, AllocError> {
-    if proc >= flat.procs().len() {
+fn ordered(alloc: Global, flat: &Flat, proc: u32) -> Result<Vec<u32>, AllocError> {
+    if proc as usize >= flat.procs().len() {
         return Err(AllocError);
     }
-    let found = order(alloc, flat, proc as u32)?;
+    let found = order(alloc, flat, proc)?;
     let mut numbers = Vec::from_slice(alloc, found.as_slice())?;
     numbers.sort()?;
     Ok(numbers)
@@ -66,12 +66,14 @@ fn orders_have_all_blocks(rt: HostRuntime) -> Result<(), Fail> {
     let alloc = rt.alloc();
     for text in [COUNTED, RECURSIVE, NESTED, DEEP, BROKEN, RETURNED] {
         let whole = flat(alloc, text)?;
-        for (number, proc) in whole.procs().iter().enumerate() {
+        let mut number: u32 = 0;
+        for proc in whole.procs() {
             let found = ordered(alloc, &whole, number)?;
             assert_eq!(rt; found.len(), proc.blocks.len());
             for (place, block) in found.as_slice().iter().enumerate() {
                 assert_eq!(rt; *block as usize, place);
             }
+            number = number.wrapping_add(1);
         }
     }
     Ok(())
