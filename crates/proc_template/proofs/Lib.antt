@@ -10,3 +10,10 @@ pub mod Lookups
 pub mod Bucketing
 pub mod Layouts
 pub mod Listing
+pub mod Getting
+pub mod Placing
+pub mod Sited
+pub mod Marked
+pub mod Roles
+pub mod Telling
+pub mod Numbering

@@ -1,6 +1,6 @@
 -- What the variables of a formula stand for, in the order of their numbers: constants, globals and ins, what the begin takes, and for each block in turn
 -- what its havocs take, what its calls give back, and its choices of a target.
-use Rattle.std.specs.Prelude.{ℕ, ◌+◌, Bool, false, List, [], ◌∷◌, ◌++◌, map, length, take, replicate, slice_index, slice_index_or, slice_set, if◌then◌else◌}
+use Rattle.std.specs.Prelude.{ℕ, ◌+◌, Bool, false, List, [], ◌∷◌, ◌++◌, map, length, take, replicate, slice_index, slice_index_or, if◌then◌else◌}
 use Rattle.hy_val.specs.declared.sort.Sort.{Sort}
 use Rattle.flat_prog.specs.declared.block.FlatBlock.{FlatBlock}
 use Rattle.flat_prog.specs.Sites.{sites_of, numbers_from}
@@ -60,15 +60,6 @@ item_roles site (Need e) = []
 item_roles site (Check p e) = []
 item_roles site (Site p f args before outs changes after) = site_roles site outs changes before
 
--- the variable that a run takes a value for, where it is the next one
-abbrev pub item_values : ℕ → Item → List ℕ
-item_values k (Let v e) = []
-item_values k (Zero v s) = []
-item_values k (Free v s) = k ∷ []
-item_values k (Need e) = []
-item_values k (Check p e) = []
-item_values k (Site p f args before outs changes after) = []
-
 abbrev pub item_sites : Item → ℕ
 item_sites (Let v e) = 0
 item_sites (Zero v s) = 0
@@ -82,11 +73,6 @@ abbrev pub items_roles : ℕ → List Item → List Role
 items_roles site [] = []
 items_roles site (i ∷ items) = item_roles site i ++ items_roles (site + item_sites i) items
 
--- the variables that a run takes values for, where those of the items are numbered from k on
-abbrev pub items_values : ℕ → ℕ → List Item → List ℕ
-items_values site k [] = []
-items_values site k (i ∷ items) = item_values k i ++ items_values (site + item_sites i) (k + length (item_roles site i)) items
-
 -- ---- blocks, where these are the numbers of their first sites
 
 abbrev pub block_roles : List ℕ → PassiveBlock → List Role
@@ -95,11 +81,6 @@ block_roles starts b = items_roles (slice_index starts b.number) b.items ++ own_
 abbrev pub blocks_roles : List ℕ → List PassiveBlock → List Role
 blocks_roles starts [] = []
 blocks_roles starts (b ∷ bs) = block_roles starts b ++ blocks_roles starts bs
-
--- for each block, by its number, the variables that a run takes values for there, where those of the first one are numbered from k on
-abbrev pub blocks_values : List ℕ → ℕ → List PassiveBlock → List (List ℕ) → List (List ℕ)
-blocks_values starts k [] rows = rows
-blocks_values starts k (b ∷ bs) rows = blocks_values starts (k + length (block_roles starts b)) bs (slice_set rows b.number (items_values (slice_index starts b.number) k b.items))
 
 -- ---- procedures
 
@@ -115,26 +96,7 @@ roles_of blocks p = begin_roles p ++ blocks_roles (starts_of blocks) p.blocks
 
 -- the variables that a run takes values for as it begins
 abbrev pub begin_values : Passive → List ℕ
-begin_values p = items_values 0 (length (first_roles p)) p.start.items
-
-abbrev pub empty_rows : List FlatBlock → List (List ℕ)
-empty_rows blocks = replicate (length blocks) []
-
-abbrev pub values_of : List FlatBlock → Passive → List (List ℕ)
-values_of blocks p = blocks_values (starts_of blocks) (length (begin_roles p)) p.blocks (empty_rows blocks)
+begin_values p = numbers_from (length (first_roles p)) (length (items_roles 0 p.start.items))
 
 abbrev pub layout_of : List FlatBlock → Passive → Layout
-layout_of blocks p = record { roles = roles_of blocks p; begin = begin_values p; blocks = values_of blocks p }
-
--- the layout with one block more
-abbrev pub with_block : List ℕ → Layout → PassiveBlock → Layout
-with_block starts l b = record {
-  roles = l.roles ++ block_roles starts b;
-  begin = l.begin;
-  blocks = slice_set l.blocks b.number (items_values (slice_index starts b.number) (length l.roles) b.items);
-}
-
--- with more
-abbrev pub with_blocks : List ℕ → Layout → List PassiveBlock → Layout
-with_blocks starts l [] = l
-with_blocks starts l (b ∷ bs) = with_blocks starts (with_block starts l b) bs
+layout_of blocks p = record { roles = roles_of blocks p; begin = begin_values p }

@@ -4,4 +4,6 @@ pub mod Sites
 pub mod Track
 pub mod Template
 pub mod Shape
+pub mod Told
+pub mod Numbered
 pub mod Runs

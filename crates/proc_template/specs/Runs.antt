@@ -1,5 +1,5 @@
 -- The runs of a procedure that the values of its formula's variables say.
-use Rattle.std.specs.Prelude.{◌≡◌, ℕ, ◌+◌, true, false, Bool, List, ◌∷◌, map, filter, length, take, IsTrue}
+use Rattle.std.specs.Prelude.{◌≡◌, ℕ, ◌+◌, true, false, Bool, List, [], ◌∷◌, ◌++◌, map, filter, length, slice_get, IsTrue}
 use Rattle.hy_val.specs.Values.{at, is_on}
 use Rattle.hy_val.specs.declared.value.Value.{Value}
 use Rattle.hy_term.specs.Meaning.{fits, value, values}
@@ -7,18 +7,17 @@ use Rattle.hy_term.specs.Variables.{reads}
 use Rattle.flat_prog.specs.Changes.{AllKeep}
 use Rattle.flat_prog.specs.Limits.{AreLimits}
 use Rattle.flat_prog.specs.Local.{Begins, Broken, Ended, LocalRun, Request, Result, State, Track}
+use Rattle.flat_prog.specs.Once.{has_number}
 use Rattle.flat_prog.specs.Program.{FlatProgram}
 use Rattle.flat_prog.specs.Shape.{IsFlat}
-use Rattle.passive_form.specs.Limited.{limited}
-use Rattle.passive_form.specs.SameRuns.{wides}
+use Rattle.flat_prog.specs.Sites.{sites_passed}
 use Rattle.passive_form.specs.declared.Passive.{Passive}
-use Rattle.vc_gen.specs.BlockPlans.{recast}
-use Rattle.vc_gen.specs.Emit.{site_value}
-use Rattle.vc_gen.specs.Exact.{asked, given_back}
-use Rattle.vc_gen.specs.Instance.{run_values}
-use Rattle.vc_gen.specs.Items.{SiteMeans}
+use Rattle.vc_gen.specs.Instance.{start_sorts}
+use Rattle.vc_gen.specs.Taken.{true_values}
 use Rattle.tree_terms.specs.declared.linked.EdgeTerms.{EdgeTerms}
 use Rattle.tree_terms.specs.declared.linked.Template.{Template}
+use Rattle.tree_terms.specs.declared.linked.ValueTerms.{ValueTerms}
+use Rattle.proc_template.specs.Numbered.{is_passed, requests_of, results_of}
 use Rattle.proc_template.specs.Starting.{first_sorts}
 use Rattle.proc_template.specs.Template.{IsTemplateOf}
 
@@ -42,13 +41,24 @@ consts_at p a = reads a 0 (length p.consts)
 abbrev pub call_at : ℕ → Passive → (ℕ → Value) → Request
 call_at proc p a = record { proc = proc; globals = reads a (length p.consts) (length p.globals); args = reads a (length p.consts + length p.globals) (length p.ins) }
 
--- what the sites say
-abbrev pub sites_at : {flat : FlatProgram} {limits : List (List Bool)} {proc : ℕ} {t : Template} → IsTemplateOf flat limits proc t → (ℕ → Value) → List SiteMeans
-sites_at {t = t} h a = map (site_value a t.nodes) h.made.instance.sites
+-- the values of those that the run comes to
+abbrev pub values_taken : List Value → List ValueTerms → List Value
+values_taken vs values = map (λ (v : ValueTerms). at vs v.node) (filter (λ (v : ValueTerms). is_on (at vs v.live)) values)
+
+-- the values that the run takes
+abbrev pub taken_by : Template → List Value → List Value
+taken_by t vs = map (at vs) t.track.begin ++ values_taken vs t.track.values
+
+-- the values that the layers below name are read off the track's nodes
+abbrev pub TakenAreRead : Type 0
+TakenAreRead =
+    (flat : FlatProgram) (limits : List (List Bool)) (proc : ℕ) (t : Template) (a : ℕ → Value) → IsFlat flat → (h : IsTemplateOf flat limits proc t) → IsTrue (fits a t.nodes) →
+    (reads a (length (first_sorts h.passive)) (length (start_sorts h.q h.q.kind)) ≡ map (at (values a t.nodes)) t.track.begin)
+    × (true_values a t.nodes h.made.instance.values ≡ values_taken (values a t.nodes) t.track.values)
 
 -- There is a run with this result, which passes the edges whose bits are true and takes values of the formula's variables. It makes the calls of the sites
--- whose bits are true, and they come back so, with all globals: those that the callee may not change are as before.
-pub record SaysRun (flat : FlatProgram) (limits : List (List Bool)) (proc : ℕ) (t : Template) (h : IsTemplateOf flat limits proc t) (a : ℕ → Value) (back : List Result) (result : Result) : Type 0 where
+-- whose bits are true, the first ones of its path, and they come back so, with all globals: where a callee fails, it fails in the assert x y.
+pub record SaysRun (flat : FlatProgram) (limits : List (List Bool)) (proc : ℕ) (t : Template) (h : IsTemplateOf flat limits proc t) (a : ℕ → Value) (x y : ℕ) (result : Result) : Type 0 where
   pub taken : List Value
   pub begin : State
   pub results : List Result
@@ -56,21 +66,26 @@ pub record SaysRun (flat : FlatProgram) (limits : List (List Bool)) (proc : ℕ)
   pub begins : Begins flat (track_at t a taken) (call_at proc h.passive a) h.q begin
   pub run : LocalRun flat h.q (consts_at h.passive a) (track_at t a taken) begin results calls result
   pub keep : AllKeep flat calls results
-  pub calls_are : calls ≡ asked (sites_at h a)
-  pub results_are : results ≡ wides limits calls back
-  pub taken_are : taken ≡ take (length taken) (run_values (limited flat limits) h.q h.passive_is.order (length (first_sorts h.passive)) a (track_at t a taken).path)
+  pub passed : List ℕ
+  pub more : List ℕ
+  pub along : sites_passed h.q.blocks (track_at t a taken).path ≡ passed ++ more
+  pub apart : (i : ℕ) → has_number more i ≡ true → has_number passed i ≡ false
+  pub on : (i : ℕ) → is_passed (values a t.nodes) (slice_get t.sites i) ≡ has_number passed i
+  pub calls_are : calls ≡ requests_of t (values a t.nodes) passed
+  pub results_are : results ≡ results_of x y t (values a t.nodes) passed
+  pub track_is : taken ≡ taken_by t (values a t.nodes)
 
--- where the bit is true that the run ends, there is such a run
+-- where the bit is true that the run ends, there is such a run, which passes all sites of its path
 abbrev pub EndsAreRuns : Type 0
 EndsAreRuns =
     (flat : FlatProgram) (limits : List (List Bool)) (proc : ℕ) (t : Template) (a : ℕ → Value) → IsFlat flat → AreLimits flat limits → (h : IsTemplateOf flat limits proc t) → IsTrue (fits a t.nodes) → is_on (value a t.nodes t.ends) ≡ true →
-    SaysRun flat limits proc t h a (given_back (sites_at h a)) (Ended (map (at (values a t.nodes)) t.outs) (map (at (values a t.nodes)) t.globals))
+    (x y : ℕ) → (s : SaysRun flat limits proc t h a x y (Ended (map (at (values a t.nodes)) t.outs) (map (at (values a t.nodes)) t.globals))) × (s.more ≡ [])
 
 -- and where the bit is true that it fails, there is one that fails, whatever a callee that fails there fails with
 abbrev pub FailuresAreRuns : Type 0
 FailuresAreRuns =
     (flat : FlatProgram) (limits : List (List Bool)) (proc : ℕ) (t : Template) (a : ℕ → Value) → IsFlat flat → AreLimits flat limits → (h : IsTemplateOf flat limits proc t) → IsTrue (fits a t.nodes) → is_on (value a t.nodes t.fails) ≡ true →
-    (x y : ℕ) → (p : ℕ) × (n : ℕ) × SaysRun flat limits proc t h a (map (recast x y) (given_back (sites_at h a))) (Broken p n)
+    (x y : ℕ) → (p : ℕ) × (n : ℕ) × SaysRun flat limits proc t h a x y (Broken p n)
 
 -- the two bits are never true at once
 abbrev pub BitsAreNeverBoth : Type 0

@@ -11,7 +11,7 @@ use Rattle.passive_form.specs.declared.PassiveBlock.{PassiveBlock}
 use Rattle.vc_gen.specs.Fitting.{PassiveFits}
 use Rattle.vc_gen.specs.Items.{AreSorts}
 use Rattle.vc_gen.specs.Standing.{Later}
-use Rattle.vc_gen.specs.Whole.{NewVariables, SaysEnds, HasEnds, SaysFails, HasFails, PlansEnds, PlansFails, SaysOne, HasTerms, HasSites, HasPlaces}
+use Rattle.vc_gen.specs.Whole.{NewVariables, SaysEnds, HasEnds, SaysFails, HasFails, PlansEnds, PlansFails, SaysOne, HasTerms, HasSites, HasPlaces, HasRoom, HasRequests, IsLaidOut, FailsAtOne, HasValues}
 use Rattle.vc_gen.specs.declared.parts.Actuals.{Actuals}
 use Rattle.vc_gen.specs.declared.parts.Instance.{Instance}
 use Rattle.tree_terms.specs.declared.linked.Template.{Template}
@@ -36,6 +36,11 @@ pub record IsInstance (old : List TermNode) (p : Passive) (actuals : Actuals) (k
   pub one : SaysOne p nodes i
   pub there : HasTerms p nodes i
   pub variables : NewVariables old k nodes i.next
+  pub room : HasRoom old p k nodes i
+  pub laid : IsLaidOut p k i
+  pub single : FailsAtOne p nodes i
+  pub requests : HasRequests p nodes i
+  pub values : HasValues p actuals k nodes i
   pub sites : HasSites p nodes i
   pub places : HasPlaces p actuals nodes i
   pub failures : SaysFails old p actuals k nodes i

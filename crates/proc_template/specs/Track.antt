@@ -7,9 +7,11 @@ use Rattle.flat_prog.specs.declared.block.FlatBlock.{FlatBlock}
 use Rattle.vc_gen.specs.declared.parts.EdgeTerm.{EdgeTerm}
 use Rattle.vc_gen.specs.declared.parts.FailTerm.{FailTerm}
 use Rattle.vc_gen.specs.declared.parts.Instance.{Instance}
+use Rattle.vc_gen.specs.declared.parts.ValueTerm.{ValueTerm}
 use Rattle.tree_terms.specs.declared.linked.EdgeTerms.{EdgeTerms}
 use Rattle.tree_terms.specs.declared.linked.FailTerms.{FailTerms}
 use Rattle.tree_terms.specs.declared.linked.TrackTerms.{TrackTerms}
+use Rattle.tree_terms.specs.declared.linked.ValueTerms.{ValueTerms}
 use Rattle.proc_template.specs.declared.layout.Layout.{Layout}
 
 -- the places of the variables among nodes, where the first has this one
@@ -36,6 +38,9 @@ edges_with blocks (e ∷ es) = edge_to e (place_at (slice_get blocks e.block) e.
 abbrev pub fail_terms : FailTerm → FailTerms
 fail_terms f = record { block = f.block; position = f.position; node = f.node }
 
+abbrev pub value_terms : ValueTerm → ValueTerms
+value_terms v = record { node = v.node; live = v.live }
+
 -- the nodes of variables, by number
 abbrev pub nodes_at : List ℕ → List ℕ → List ℕ
 nodes_at variables numbers = map (slice_index variables) numbers
@@ -45,6 +50,6 @@ track_of proc blocks nodes layout i = record {
   proc = proc;
   edges = edges_with blocks i.edges;
   begin = nodes_at (variables_from 0 nodes) layout.begin;
-  blocks = map (nodes_at (variables_from 0 nodes)) layout.blocks;
+  values = map value_terms i.values;
   asserts = map fail_terms i.asserts;
 }

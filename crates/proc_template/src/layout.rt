@@ -1,5 +1,6 @@
-//! What the variables of a formula stand for, in the order in which it makes them, and which of them are values that a run takes.
-ghost use Rattle.std.specs.Prelude.{◌≡◌, ◌+◌, ◌<◌, ◌++◌, ◌∷◌, [], false, length, replicate, slice_index_or, All, OnOk, IfOk};
+//! What the variables of a formula stand for, in the order in which it makes them, and which of them a run takes as it begins.
+ghost use Rattle.std.specs.Prelude.{◌≡◌, ◌+◌, ◌-◌, ◌<◌, ◌≤◌, ◌++◌, ◌∷◌, [], false, length, slice_index_or, All, OnOk, IfOk};
+ghost use Rattle.flat_prog.specs.Sites.{numbers_from};
 ghost use Rattle.vc_gen.specs.Fold.{choice_count};
 ghost use Rattle.proc_template.specs.Layout as spec;
 
@@ -11,15 +12,13 @@ use sqlite_items::{Items, at};
 use std::alloc::{AllocError, Global};
 use tree_terms::Role;
 
-/// The roles of the variables, by number, and the numbers of those that a run takes values for.
+/// The roles of the variables, by number, and the numbers of those that a run takes values for as it begins.
 #[derive(Drop)]
 pub(crate) struct Layout {
     /// For each variable number its role.
     pub roles: Items<Role>,
     /// The variables that are taken as the run begins, in order.
     pub begin: Items<usize>,
-    /// For each block, by its number, those that are taken there, in order.
-    pub blocks: Items<Items<usize>>,
 }
 
 // A role for each constant.
@@ -132,21 +131,14 @@ fn next_site(site: usize) -> Result<usize, AllocError>
 }
 
 // The variables of an item. The answer is the number of the next site.
-fn push_item(
-    roles: &mut Items<Role>,
-    values: &mut Items<usize>,
-    site: usize,
-    item: &Item,
-) -> Result<usize, AllocError>
+fn push_item(roles: &mut Items<Role>, site: usize, item: &Item) -> Result<usize, AllocError>
     ensures roles { OnOk result (roles.new ≡ roles.old ++ spec.item_roles site item.now) }
-    ensures values { OnOk result (values.new ≡ values.old ++ spec.item_values (length roles.old) item.now) }
     ensures next { IfOk result (λ n. n ≡ site + spec.item_sites item.now) }
 {
     match item {
         Item::Let { .. } => Ok(site),
         Item::Zero { .. } => Ok(site),
         Item::Free { .. } => {
-            values.push(roles.len())?;
             roles.push(Role::Own)?;
             Ok(site)
         }
@@ -171,18 +163,12 @@ fn push_item(
 }
 
 // The variables of items, the first of whose sites has this number.
-fn push_items(
-    roles: &mut Items<Role>,
-    values: &mut Items<usize>,
-    site: usize,
-    items: &[Item],
-) -> Result<(), AllocError>
-    ensures roles { OnOk result (roles.new ≡ roles.old ++ spec.items_roles site items.now) }
-    ensures values { OnOk result (values.new ≡ values.old ++ spec.items_values site (length roles.old) items.now) }
+fn push_items(roles: &mut Items<Role>, site: usize, items: &[Item]) -> Result<(), AllocError>
+    ensures { OnOk result (roles.new ≡ roles.old ++ spec.items_roles site items.now) }
 {
     let mut next = site;
     for item in items {
-        next = push_item(roles, values, next, item)?;
+        next = push_item(roles, next, item)?;
     }
     Ok(())
 }
@@ -199,68 +185,58 @@ fn choices(next: &FlatNext) -> usize
 
 // The variables of a block.
 fn push_block(
-    alloc: Global,
     starts: &[usize],
-    layout: &mut Layout,
+    roles: &mut Items<Role>,
     block: &PassiveBlock,
 ) -> Result<(), AllocError>
-    requires number { block.now.number < length starts.now }
-    requires rows { length layout.old.blocks ≡ length starts.now }
-    ensures { OnOk result (layout.new ≡ spec.with_block starts.now layout.old block.now) }
+    requires { block.now.number < length starts.now }
+    ensures { OnOk result (roles.new ≡ roles.old ++ spec.block_roles starts.now block.now) }
 {
-    let number = block.number as usize;
-    let site = starts[number];
-    let mut values = Items::new(alloc);
-    push_items(&mut layout.roles, &mut values, site, block.items.as_slice())?;
-    push_own(&mut layout.roles, choices(&block.next))?;
-    layout.blocks.set(number, values);
+    let site = starts[block.number as usize];
+    push_items(roles, site, block.items.as_slice())?;
+    push_own(roles, choices(&block.next))?;
     Ok(())
 }
 
 // The variables of the blocks.
 fn push_blocks(
-    alloc: Global,
     starts: &[usize],
-    layout: &mut Layout,
+    roles: &mut Items<Role>,
     blocks: &[PassiveBlock],
 ) -> Result<(), AllocError>
-    requires numbers { All (λ b. b.number < length starts.now) blocks.now }
-    requires rows { length layout.old.blocks ≡ length starts.now }
-    ensures { OnOk result (layout.new ≡ spec.with_blocks starts.now layout.old blocks.now) }
+    requires { All (λ b. b.number < length starts.now) blocks.now }
+    ensures { OnOk result (roles.new ≡ roles.old ++ spec.blocks_roles starts.now blocks.now) }
 {
     for block in blocks {
-        push_block(alloc, starts, layout, block)?;
+        push_block(starts, roles, block)?;
     }
     Ok(())
 }
 
-// So many empty lists.
-fn empty_rows(alloc: Global, count: usize) -> Result<Items<Items<usize>>, AllocError>
-    ensures { IfOk result (λ rows. rows ≡ replicate count []) }
+// The numbers from one on, up to another.
+fn numbers(alloc: Global, first: usize, end: usize) -> Result<Items<usize>, AllocError>
+    requires { first ≤ end }
+    ensures { IfOk result (λ ns. ns ≡ numbers_from first (end - first)) }
 {
-    let mut rows = Items::new(alloc);
-    for _ in 0..count {
-        rows.push(Items::new(alloc))?;
+    let mut numbers = Items::new(alloc);
+    for number in first..end {
+        numbers.push(number)?;
     }
-    Ok(rows)
+    Ok(numbers)
 }
 
 // The variables of the constants, the globals and the ins, and of the begin.
-fn open_layout(alloc: Global, passive: &Passive, count: usize) -> Result<Layout, AllocError>
-    ensures { IfOk result (λ l. l ≡ record { roles = spec.begin_roles passive.now; begin = spec.begin_values passive.now; blocks = replicate count [] }) }
+fn open_layout(alloc: Global, passive: &Passive) -> Result<Layout, AllocError>
+    ensures { IfOk result (λ l. l ≡ record { roles = spec.begin_roles passive.now; begin = spec.begin_values passive.now }) }
 {
     let mut roles = Items::new(alloc);
     push_consts(&mut roles, passive.consts.as_slice())?;
     push_globals(&mut roles, passive.globals.as_slice())?;
     push_ins(&mut roles, passive.ins.as_slice())?;
-    let mut begin = Items::new(alloc);
-    push_items(&mut roles, &mut begin, 0, passive.start.items.as_slice())?;
-    let blocks = empty_rows(alloc, count)?;
-    Ok(Layout {
-        roles,
-        begin,
-        blocks,
-    })
+    let first = roles.len();
+    push_items(&mut roles, 0, passive.start.items.as_slice())?;
+    let begin = numbers(alloc, first, roles.len())?;
+    Ok(Layout { roles, begin })
 }
 
 /// What the variables of the formula of a passive form stand for, where the procedure has these blocks, and each block of the
@@ -274,11 +250,10 @@ pub(crate) fn lay_out(
     ensures { IfOk result (λ l. l ≡ spec.layout_of blocks.now passive.now) }
 {
     let starts = site_starts(alloc, blocks)?;
-    let mut layout = open_layout(alloc, passive, blocks.len())?;
+    let mut layout = open_layout(alloc, passive)?;
     push_blocks(
-        alloc,
         starts.as_slice(),
-        &mut layout,
+        &mut layout.roles,
         passive.blocks.as_slice(),
     )?;
     Ok(layout)

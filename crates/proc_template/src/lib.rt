@@ -9,5 +9,9 @@ mod sites;
 mod starting;
 mod track;
 
-pub use laws::{bits_are_never_both, ends_are_runs, failures_are_runs, templates_are_shaped};
+pub use laws::{
+    bits_are_never_both, ends_are_runs, failures_are_runs, first_variables_are_told,
+    none_fails_at_ends, one_site_fails, passed_sites_are_numbered, roles_are_told, sites_are_told,
+    taken_values_are_read, templates_are_shaped, templates_have_sites,
+};
 pub use making::{make_template, templates};

@@ -8,8 +8,8 @@ use flat_prog::{FlatBlock, FlatNext};
 use hy_term::TermNode;
 use sqlite_items::{Items, at};
 use std::alloc::{AllocError, Global};
-use tree_terms::{EdgeTerms, FailTerms, TrackTerms};
-use vc_gen::{EdgeTerm, FailTerm, Instance};
+use tree_terms::{EdgeTerms, FailTerms, TrackTerms, ValueTerms};
+use vc_gen::{EdgeTerm, FailTerm, Instance, ValueTerm};
 
 // The nodes of the variables, in order.
 fn variables(alloc: Global, nodes: &[TermNode]) -> Result<Items<usize>, AllocError>
@@ -45,21 +45,6 @@ fn nodes_at(
     let mut nodes = Items::new(alloc);
     for number in numbers {
         nodes.push(node_of(variables, *number))?;
-    }
-    Ok(nodes)
-}
-
-// The same for each list.
-fn rows_at(
-    alloc: Global,
-    variables: &[usize],
-    rows: &[Items<usize>],
-) -> Result<Items<Items<usize>>, AllocError>
-    ensures { IfOk result (λ ns. ns ≡ map (spec.nodes_at variables.now) rows.now) }
-{
-    let mut nodes = Items::new(alloc);
-    for row in rows {
-        nodes.push(nodes_at(alloc, variables, row.as_slice())?)?;
     }
     Ok(nodes)
 }
@@ -122,6 +107,20 @@ fn fail_terms(alloc: Global, asserts: &[FailTerm]) -> Result<Items<FailTerms>, A
     Ok(found)
 }
 
+// The values.
+fn value_terms(alloc: Global, values: &[ValueTerm]) -> Result<Items<ValueTerms>, AllocError>
+    ensures { IfOk result (λ vs. vs ≡ map spec.value_terms values.now) }
+{
+    let mut found = Items::new(alloc);
+    for value in values {
+        found.push(ValueTerms {
+            node: value.node,
+            live: value.live,
+        })?;
+    }
+    Ok(found)
+}
+
 /// How a run of the procedure of this number, which has these blocks, is read off the values of the nodes.
 pub(crate) fn track(
     alloc: Global,
@@ -136,13 +135,13 @@ pub(crate) fn track(
     let variables = variables(alloc, nodes)?;
     let edges = edges_with(alloc, blocks, instance.edges.as_slice())?;
     let begin = nodes_at(alloc, variables.as_slice(), layout.begin.as_slice())?;
-    let blocks = rows_at(alloc, variables.as_slice(), layout.blocks.as_slice())?;
+    let values = value_terms(alloc, instance.values.as_slice())?;
     let asserts = fail_terms(alloc, instance.asserts.as_slice())?;
     Ok(TrackTerms {
         proc,
         edges,
         begin,
-        blocks,
+        values,
         asserts,
     })
 }

@@ -17,8 +17,8 @@ mod tests;
 pub use copying::copied;
 pub use laws::{nodes_are_added, terms_stay};
 pub use linked::{
-    EdgeTerms, FailTerms, Linked, Place, Role, SiteTerms, Source, Template, TrackTerms, count, kid,
-    node_at, parent, site_node, source_of, template_of,
+    EdgeTerms, FailTerms, Linked, Place, Role, SiteTerms, Source, Template, TrackTerms, ValueTerms,
+    count, kid, node_at, parent, site_node, source_of, template_of,
 };
 pub use placing::{placed, renamed};
 pub use reach::reaches;

@@ -70,6 +70,15 @@ pub struct FailTerms {
     pub node: usize,
 }
 
+/// A value that a run may take on its way.
+#[derive(Clone, Copy, Debug, PartialEq, Eq)]
+pub struct ValueTerms {
+    /// The node of the value.
+    pub node: usize,
+    /// The node, a bool, that says that the run comes to where it is taken.
+    pub live: usize,
+}
+
 /// How a run's own path and values are read off the formula's values.
 #[derive(Drop)]
 pub struct TrackTerms {
@@ -79,8 +88,8 @@ pub struct TrackTerms {
     pub edges: Items<EdgeTerms>,
     /// The nodes of the values that the run takes as it begins.
     pub begin: Items<usize>,
-    /// For each block the nodes of the values that the run takes there.
-    pub blocks: Items<Items<usize>>,
+    /// The values that a run takes on its way, in an order in which each run comes to those that it takes.
+    pub values: Items<ValueTerms>,
     /// The asserts.
     pub asserts: Items<FailTerms>,
 }

@@ -26,7 +26,7 @@ fn no_track(alloc: Global, proc: u32) -> TrackTerms {
         proc,
         edges: Items::new(alloc),
         begin: Items::new(alloc),
-        blocks: Items::new(alloc),
+        values: Items::new(alloc),
         asserts: Items::new(alloc),
     }
 }

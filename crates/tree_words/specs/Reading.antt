@@ -1,5 +1,5 @@
 -- The run that values of a question's terms stand for, as a list of nodes. Everything is a function of the list of the terms' values.
-use Rattle.std.specs.Prelude.{ℕ, zero, suc, Bool, not, List, [], ◌∷◌, ◌++◌, map, length, filter, flat_map, slice_get, slice_index, Option, None, Some, if◌then◌else◌}
+use Rattle.std.specs.Prelude.{ℕ, zero, suc, Bool, not, List, [], ◌∷◌, ◌++◌, map, length, filter, slice_get, slice_index, Option, None, Some, if◌then◌else◌}
 use Rattle.hy_val.specs.declared.value.Value.{Value}
 use Rattle.hy_val.specs.Values.{at, is_on}
 use Rattle.flat_prog.specs.Program.{blocks_of}
@@ -11,6 +11,7 @@ use Rattle.flat_prog.specs.declared.run.Child.TheVariants.{Node, Free}
 use Rattle.flat_prog.specs.declared.run.RunNode.{RunNode}
 use Rattle.tree_terms.specs.declared.linked.EdgeTerms.{EdgeTerms}
 use Rattle.tree_terms.specs.declared.linked.TrackTerms.{TrackTerms}
+use Rattle.tree_terms.specs.declared.linked.ValueTerms.{ValueTerms}
 use Rattle.tree_terms.specs.declared.linked.Linked.{Linked}
 use Rattle.tree_terms.specs.declared.linked.Template.{Template as Formula}
 use Rattle.tree_terms.specs.Linked.{kid}
@@ -29,9 +30,9 @@ passed_edges vs edges = filter (λ (e : EdgeTerms). is_on (at vs e.node)) edges
 abbrev pub path_by : List EdgeTerms → List ℕ
 path_by passed = 0 ∷ map (λ (e : EdgeTerms). e.target) passed
 
--- the values that the blocks of a path take
-abbrev pub values_along : List Value → List (List ℕ) → List ℕ → List Value
-values_along vs blocks path = flat_map (λ b. map (at vs) (row blocks b)) path
+-- the values that the run comes to and takes, in the template's order
+abbrev pub values_taken : List Value → List ValueTerms → List Value
+values_taken vs values = map (λ (v : ValueTerms). at vs v.node) (filter (λ (v : ValueTerms). is_on (at vs v.live)) values)
 
 -- the run of the procedure that passes these edges
 abbrev pub track_with : TrackTerms → List Value → List EdgeTerms → Track
@@ -39,7 +40,7 @@ track_with t vs passed = record {
   proc = t.proc;
   path = path_by passed;
   places = map (λ (e : EdgeTerms). e.place) passed;
-  values = map (at vs) t.begin ++ values_along vs t.blocks (path_by passed);
+  values = map (at vs) t.begin ++ values_taken vs t.values;
 }
 
 -- the run that the values of a formula's nodes say

@@ -9,7 +9,7 @@ ghost use Rattle.tree_words.specs.Reading.{child_by, children_by, free_by, front
 
 use crate::lists::{number_at, row_at};
 use crate::sites::sites_passed;
-use crate::track::{passed_edges, path_by, places_by, values_along};
+use crate::track::{passed_edges, path_by, places_by, values_taken};
 use crate::values::{is_on, picked};
 use flat_prog::{Child, FlatBlock, FlatProc, RunNode};
 use hy_val::Value;
@@ -131,13 +131,7 @@ fn own_node(
     let passed = passed_edges(alloc, values, track.edges.as_slice())?;
     let path = path_by(alloc, passed.as_slice())?;
     let places = places_by(alloc, passed.as_slice())?;
-    let own = values_along(
-        alloc,
-        values,
-        track.begin.as_slice(),
-        track.blocks.as_slice(),
-        path.as_slice(),
-    )?;
+    let own = values_taken(alloc, values, track.values.as_slice())?;
     let sites = sites_passed(alloc, blocks_of(procs, track.proc), path.as_slice())?;
     let children = children(
         alloc,
@@ -150,6 +144,7 @@ fn own_node(
         sites.as_slice(),
     )?;
     let mut all = front;
+    all.append(picked(alloc, values, track.begin.as_slice())?)?;
     all.append(own)?;
     Ok(RunNode {
         proc: track.proc,

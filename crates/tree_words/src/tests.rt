@@ -10,7 +10,9 @@ use hy_val::{Atom, Value};
 use sqlite_items::{Items, at};
 use std::alloc::{AllocError, Global};
 use std::test::Fail;
-use tree_terms::{EdgeTerms, Linked, Place, Rule, SiteTerms, Table, Template, TrackTerms};
+use tree_terms::{
+    EdgeTerms, Linked, Place, Rule, SiteTerms, Table, Template, TrackTerms, ValueTerms,
+};
 
 // A call of a procedure, and then the return.
 fn calling(alloc: Global, proc: u32) -> Result<FlatBlock, AllocError> {
@@ -103,21 +105,20 @@ fn template(alloc: Global, track: TrackTerms, sites: Items<SiteTerms>) -> Templa
     }
 }
 
-// The caller takes node 0 as it begins and node 3 in its last block. Node 1 says that it goes to the second block, node 2 that it goes
+// The caller takes node 0 as it begins, node 1 in its second block and node 3 in its last one. Node 1 says that it goes to the second block, node 2 that it goes
 // to the last one and passes the site, node 3 that the callee fails; node 0 is the callee's out, and nodes 1 and 2 the globals.
 fn caller(alloc: Global) -> Result<Template, AllocError> {
     let mut edges = Items::new(alloc);
     edges.push(edge(0, 1, 1))?;
     edges.push(edge(1, 2, 2))?;
-    let mut blocks = Items::new(alloc);
-    blocks.push(Items::new(alloc))?;
-    blocks.push(numbers(alloc, &[1])?)?;
-    blocks.push(numbers(alloc, &[3])?)?;
+    let mut values = Items::new(alloc);
+    values.push(ValueTerms { node: 1, live: 1 })?;
+    values.push(ValueTerms { node: 3, live: 2 })?;
     let track = TrackTerms {
         proc: 0,
         edges,
         begin: numbers(alloc, &[0])?,
-        blocks,
+        values,
         asserts: Items::new(alloc),
     };
     let mut sites = Items::new(alloc);
@@ -133,15 +134,17 @@ fn caller(alloc: Global) -> Result<Template, AllocError> {
     Ok(template(alloc, track, sites))
 }
 
-// The callee takes node 0 as it begins and node 1 in its only block.
+// The callee takes node 0 as it begins and node 1 in its only block, where node 1 says that it comes there, and node 3 behind a
+// command at which it may be over, where node 2 says that it isn't.
 fn callee(alloc: Global) -> Result<Template, AllocError> {
-    let mut blocks = Items::new(alloc);
-    blocks.push(numbers(alloc, &[1])?)?;
+    let mut values = Items::new(alloc);
+    values.push(ValueTerms { node: 1, live: 1 })?;
+    values.push(ValueTerms { node: 3, live: 2 })?;
     let track = TrackTerms {
         proc: 1,
         edges: Items::new(alloc),
         begin: numbers(alloc, &[0])?,
-        blocks,
+        values,
         asserts: Items::new(alloc),
     };
     Ok(template(alloc, track, Items::new(alloc)))
@@ -342,7 +345,7 @@ fn chain(alloc: Global, count: usize) -> Result<Linked, AllocError> {
         proc: 0,
         edges: Items::new(alloc),
         begin: Items::new(alloc),
-        blocks: Items::new(alloc),
+        values: Items::new(alloc),
         asserts: Items::new(alloc),
     };
     let mut sites = Items::new(alloc);

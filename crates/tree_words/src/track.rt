@@ -1,15 +1,13 @@
 //! A run's own path and values, read off the values of its formula's nodes. `AllocError` comes where memory runs out.
-ghost use Rattle.std.specs.Prelude.{◌≡◌, ◌++◌, map, IfOk};
-ghost use Rattle.hy_val.specs.Values.{at};
+ghost use Rattle.std.specs.Prelude.{◌≡◌, map, IfOk};
 ghost use Rattle.tree_terms.specs.declared.linked.EdgeTerms.{EdgeTerms as EdgeIs};
-ghost use Rattle.tree_words.specs.Reading.{passed_edges, path_by, values_along};
+ghost use Rattle.tree_words.specs.Reading.{passed_edges, path_by, values_taken};
 
-use crate::lists::row_at;
-use crate::values::{is_on, picked};
+use crate::values::{is_on, value_at};
 use hy_val::Value;
 use sqlite_items::Items;
 use std::alloc::{AllocError, Global};
-use tree_terms::EdgeTerms;
+use tree_terms::{EdgeTerms, ValueTerms};
 
 /// The edges that are passed, in their order.
 pub fn passed_edges(
@@ -51,20 +49,19 @@ pub fn places_by(alloc: Global, passed: &[EdgeTerms]) -> Result<Items<u32>, Allo
     Ok(Items::from_vec(places))
 }
 
-/// The values that a run takes as it begins, by their nodes, and behind them those that it takes in the blocks of its path.
-pub fn values_along(
+/// The values that a run comes to and takes on its way, in their order.
+pub fn values_taken(
     alloc: Global,
     values: &[Value],
-    begin: &[usize],
-    blocks: &[Items<usize>],
-    path: &[u32],
+    taken: &[ValueTerms],
 ) -> Result<Items<Value>, AllocError>
-    ensures { IfOk result (λ vs. vs ≡ map (at values.now) begin.now ++ values_along values.now blocks.now path.now) }
+    ensures { IfOk result (λ vs. vs ≡ values_taken values.now taken.now) }
 {
-    let mut list = picked(alloc, values, begin)?;
-    for block in path {
-        let nodes = row_at(blocks, *block as usize);
-        list.append(picked(alloc, values, nodes)?)?;
+    let mut list: Vec<Value> = Vec::new(alloc);
+    for value in taken {
+        if is_on(values, value.live) {
+            list.push(value_at(alloc, values, value.node)?)?;
+        }
     }
-    Ok(list)
+    Ok(Items::from_vec(list))
 }

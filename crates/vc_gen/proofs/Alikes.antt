@@ -1,5 +1,5 @@
 -- Edges that are alike stay so.
-use Rattle.std.proofs.Common.{◌≡◌, ℕ, Bool, true, false, not, ◌&&◌, ◌||◌, List, [], ◌∷◌, ◌++◌, sym, ◌∙◌, ap, refl, subst, inl, inr}
+use Rattle.std.proofs.Common.{◌≡◌, ℕ, Bool, true, false, ◌&&◌, ◌||◌, List, [], ◌∷◌, ◌++◌, sym, ◌∙◌, ap, refl, subst, inl, inr}
 use Rattle.std.specs.Prelude.{Option, None, Some, if◌then◌else◌, slice_get, ◌⊎◌}
 use Rattle.hy_val.specs.declared.expr.Env.{Env}
 use Rattle.flat_prog.specs.declared.block.FlatNext.{FlatNext}
@@ -8,7 +8,7 @@ use Rattle.flat_prog.specs.declared.block.FlatBlock.{FlatBlock}
 use Rattle.flat_prog.specs.declared.proc.FlatProc.{FlatProc}
 use Rattle.passive_form.specs.Limited.{Limited}
 use Rattle.passive_form.specs.Local.{State, is_target}
-use Rattle.vc_gen.specs.Fold.{Edge, Given, comes, reached, entered, others, through, fan, out_next, out_of, passed, step, fold, is_return, is_end, ends, end_env, edges_out, live_edges}
+use Rattle.vc_gen.specs.Fold.{Edge, Given, comes, reached, entered, others, through, fan, out_next, out_of, passed, step, fold, is_return, is_end, ends, end_env}
 use Rattle.vc_gen.specs.Alike.{Alike}
 
 pub alike_same : (es : List Edge) → Alike es es

@@ -1,20 +1,20 @@
 -- A walk to a block has values of the blocks by which that block is reached so, whatever it takes itself.
-use Rattle.std.proofs.Common.{◌≡◌, ℕ, ◌+◌, ◌<◌, zero, suc, Bool, true, false, not, ◌&&◌, ◌||◌, List, [], ◌∷◌, ◌++◌, map, length, arith, sym, ◌∙◌, ap, refl, subst, inl, inr, append-nil}
-use Rattle.std.specs.Prelude.{Option, None, Some, nat_eq, if◌then◌else◌, slice_get, ◌⊎◌, option_and_then}
+use Rattle.std.proofs.Common.{◌≡◌, ℕ, suc, Bool, true, false, List, [], ◌∷◌, ◌++◌, map, sym, ◌∙◌, ap, refl, subst}
+use Rattle.std.specs.Prelude.{Option, None, Some, nat_eq, slice_get, option_and_then}
 use Rattle.flat_prog.specs.declared.block.FlatNext.{FlatNext}
 use Rattle.flat_prog.specs.declared.block.FlatNext.TheVariants.{Goto, Return}
 use Rattle.flat_prog.specs.declared.block.FlatBlock.{FlatBlock}
 use Rattle.flat_prog.specs.declared.proc.FlatProc.{FlatProc}
 use Rattle.passive_form.specs.Limited.{Limited}
 use Rattle.hy_val.specs.declared.expr.Env.{Env}
-use Rattle.passive_form.specs.Local.{State, alone, walk, pass_all, cmds_of, is_target}
+use Rattle.passive_form.specs.Local.{State, walk, pass_all, cmds_of, is_target}
 use Rattle.flat_prog.specs.Shape.{place_at, place_of}
 use Rattle.flat_prog.specs.Ordering.{is_in, Onward}
-use Rattle.vc_gen.specs.Fold.{Edge, Given, Seen, seen, reached, entered, others, fan, out_next, step, One, choice_count, last_of}
+use Rattle.vc_gen.specs.Fold.{Edge, Given, Seen, seen, entered, others, fan, out_next, step, One, choice_count, last_of}
 use Rattle.vc_gen.proofs.Frames.{and_then_some}
 use Rattle.vc_gen.proofs.Edges.{one_reached, one_entered, one_dead, one_right, end_step}
 use Rattle.vc_gen.proofs.Sound.{number_is}
-use Rattle.vc_gen.proofs.Used.{Used, pass_all_used}
+use Rattle.vc_gen.proofs.Used.{pass_all_used}
 use Rattle.vc_gen.proofs.Complete.{Each, Fine, length_picks, picks, pick_fan, step_is, some_pair, if_some, target_is, split_or}
 
 -- the blocks' values, of which these are the last block's, and it is reached with these variables

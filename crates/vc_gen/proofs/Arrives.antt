@@ -1,7 +1,7 @@
 -- The values by which a block is reached that fails pass exactly the edges and calls of the run.
 use Rattle.vc_gen.proofs.Prefixes.{prefix_then}
-use Rattle.std.proofs.Common.{◌≡◌, ℕ, ◌+◌, zero, suc, Bool, true, false, not, ◌&&◌, ◌||◌, List, [], ◌∷◌, ◌++◌, map, length, arith, sym, ◌∙◌, ap, refl, subst, inl, inr, append-nil, append_assoc}
-use Rattle.std.specs.Prelude.{Option, None, Some, nat_eq, if◌then◌else◌, slice_get, ◌⊎◌, take}
+use Rattle.std.proofs.Common.{◌≡◌, ℕ, ◌+◌, Bool, true, false, ◌&&◌, ◌||◌, List, [], ◌∷◌, ◌++◌, map, length, arith, sym, ◌∙◌, ap, refl, subst, append-nil, append_assoc}
+use Rattle.std.specs.Prelude.{Option, None, Some, nat_eq, slice_get, take}
 use Rattle.std.specs.Option.{option_and_then}
 use Rattle.std.proofs.lemmas.List.{map-append}
 use Rattle.hy_val.specs.declared.expr.Env.{Env}
@@ -14,9 +14,9 @@ use Rattle.passive_form.specs.Local.{State, alone, walk, pass_all, cmds_of, is_t
 use Rattle.flat_prog.specs.Local.{Result, Request, edges_of}
 use Rattle.flat_prog.specs.Shape.{place_at, place_of}
 use Rattle.flat_prog.specs.Ordering.{is_in, Onward}
-use Rattle.vc_gen.specs.Fold.{Edge, Given, Seen, seen, seen_at, reached, entered, others, closed, through, fan, out_next, out_of, passed, step, edges_next, edges_out, live_edges, Dead, One, choice_count, last_of}
+use Rattle.vc_gen.specs.Fold.{Edge, Given, seen, seen_at, reached, entered, others, closed, through, fan, out_next, out_of, passed, step, edges_next, edges_out, live_edges, One, choice_count, last_of}
 use Rattle.vc_gen.specs.Breaking.{breaks, breaks_seen, any_breaks}
-use Rattle.vc_gen.specs.Passages.{Passage, passages, passages_seen, all_passages, on_requests, on_results, blamed, seen_values}
+use Rattle.vc_gen.specs.Passages.{passages, passages_seen, all_passages, on_requests, on_results, blamed, seen_values}
 use Rattle.vc_gen.proofs.Frames.{and_then_some}
 use Rattle.vc_gen.proofs.Edges.{dead_append, dead_out, one_reached, one_entered, one_dead, one_unreached, one_right, end_step}
 use Rattle.vc_gen.proofs.Used.{Used, pass_all_used}

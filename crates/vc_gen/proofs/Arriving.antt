@@ -1,28 +1,28 @@
 -- Edges that lead to one goal, one by one.
-use Rattle.std.proofs.Common.{◌≡◌, ℕ, zero, suc, ◌+◌, ◌<◌, ◌≤◌, Bool, true, false, not, ◌&&◌, ◌||◌, List, [], ◌∷◌, ◌++◌, map, length, take, arith, sym, ◌∙◌, ap, refl, subst, append-nil, append_assoc}
-use Rattle.std.specs.Prelude.{Option, None, Some, nat_eq, slice_index_or, if◌then◌else◌, IsTrue, IsSome}
+use Rattle.std.proofs.Common.{◌≡◌, ℕ, zero, suc, ◌+◌, ◌-◌, ◌<◌, ◌≤◌, Bool, true, false, ◌&&◌, ◌||◌, List, [], ◌∷◌, ◌++◌, length, take, arith, sym, ◌∙◌, ap, refl, subst, append_assoc, length-append}
+use Rattle.std.specs.Prelude.{Option, None, Some, slice_get, slice_index_or, if◌then◌else◌}
+use Rattle.std.specs.List.{remove}
 use Rattle.std.proofs.lemmas.List.{map-append}
-use Rattle.hy_val.specs.Values.{at, is_on}
+use Rattle.std.proofs.lemmas.List.Edits.{remove-append_right}
+use Rattle.hy_val.specs.Values.{is_on}
 use Rattle.hy_val.specs.declared.sort.Sort.{Sort}
 use Rattle.hy_val.specs.declared.value.Value.{Value}
 use Rattle.hy_val.specs.declared.expr.Env.{Env}
-use Rattle.hy_term.specs.TermSorts.{sorts, sort_at}
-use Rattle.hy_term.specs.Meaning.{values, value, fits}
+use Rattle.hy_term.specs.Meaning.{value}
 use Rattle.hy_term.specs.declared.node.TermNode.{TermNode}
 use Rattle.passive_form.specs.Local.{is_target}
 use Rattle.vc_gen.specs.Fold.{Edge, comes, reached, entered, others, is_return, is_end, ends, end_env}
 use Rattle.vc_gen.specs.declared.parts.Wait.{Wait}
 use Rattle.vc_gen.specs.Standing.{Later, Plain, AreOf}
-use Rattle.vc_gen.specs.Items.{bool_sort}
 use Rattle.vc_gen.specs.Instance.{all_at, edge_at, edges_at}
 use Rattle.vc_gen.specs.Joins.{SameSorts, WaitThere, WaitOf, WaitsOf, Joined}
 use Rattle.vc_gen.specs.Edges.{WaitsThere, env_at}
-use Rattle.vc_gen.specs.Entering.{wanted, arrives, met, met_env, kept, EnterReady, EnterSoFar, Entered}
+use Rattle.vc_gen.specs.Entering.{wanted, arrives, met, met_env, wanted_at, kept, KeepSoFar, EnterReady, EnterSoFar, Entered}
 use Rattle.vc_gen.proofs.Looking.{take_at, take_all}
-use Rattle.vc_gen.proofs.Growth.{later_same, later_then, plain_same, plain_then, sort_later, are_later, map_later}
+use Rattle.vc_gen.proofs.Growth.{later_same, later_then, plain_same, plain_then}
 use Rattle.vc_gen.proofs.Joining.{fits_before}
 use Rattle.vc_gen.proofs.Passes.{bit_later}
-use Rattle.vc_gen.proofs.Fanning.{edge_later, of_later, all_later}
+use Rattle.vc_gen.proofs.Fanning.{edge_later, of_later}
 
 -- ---- a block and the end as goals
 
@@ -242,18 +242,83 @@ enter_end old new spare waits goal i w found l h =
 
 -- ---- what is kept
 
-kept_append : (goal : Option ℕ) (xs ys : List Wait) → kept goal (xs ++ ys) ≡ kept goal xs ++ kept goal ys
-kept_append goal [] ys = refl
-kept_append goal (x ∷ xs) ys = ap (λ ws. if wanted x.target goal then ws else x ∷ ws) (kept_append goal xs ys) ∙ by (wanted x.target goal)
+-- ---- edges that stay
+
+get_seam : (xs : List Wait) (x : Wait) (ys : List Wait) → slice_get (xs ++ x ∷ ys) (length xs) ≡ Some x
+get_seam [] x ys = refl
+get_seam (z ∷ xs) x ys = get_seam xs x ys
+
+remove_seam : (xs : List Wait) (x : Wait) (ys : List Wait) → remove (xs ++ x ∷ ys) (length xs) ≡ xs ++ ys
+remove_seam xs x ys =
+    let e : length xs - length xs ≡ 0 = omega arith in
+    remove-append_right xs (x ∷ ys) (length xs) (length xs) refl (omega arith) ∙ ap (λ i. xs ++ remove (x ∷ ys) i) e
+
+pub keep_start : (goal : Option ℕ) (ws : List Wait) → KeepSoFar goal ws ws 0 0
+keep_start goal ws = record { front = []; rest = ws; new_is = refl; place_is = refl; same = refl; size = omega arith; within = omega arith }
+
+pub keep_within : (goal : Option ℕ) (old new : List Wait) (place count : ℕ) → KeepSoFar goal old new place count → count < length old → place < length new
+keep_within goal old new place count h l = omega (arith, h.place_is, h.size, l, ap length h.new_is, length-append h.front h.rest)
+
+-- the next edge
+record Next (goal : Option ℕ) (old new : List Wait) (place count : ℕ) : Type 0 where
+  pub front : List Wait
+  pub wait : Wait
+  pub rest : List Wait
+  pub new_is : new ≡ front ++ wait ∷ rest
+  pub place_is : place ≡ length front
+  pub same : kept goal old ≡ front ++ kept goal (wait ∷ rest)
+  pub size : count + 1 + length rest ≡ length old
+  pub within : place ≤ count
+  pub at : slice_get new place ≡ Some wait
+
+next_of : (goal : Option ℕ) (old new : List Wait) (place count : ℕ) → KeepSoFar goal old new place count → count < length old → Next goal old new place count
+next_of goal old new place count h l = by h.rest h.new_is h.same h.size
   where
-    by : (b : Bool) → (if b then kept goal xs ++ kept goal ys else x ∷ (kept goal xs ++ kept goal ys)) ≡ (if b then kept goal xs else x ∷ kept goal xs) ++ kept goal ys
-    by true = refl
-    by false = refl
+    by : (rest : List Wait) → new ≡ h.front ++ rest → kept goal old ≡ h.front ++ kept goal rest → count + length rest ≡ length old → Next goal old new place count
+    by [] a b c = absurd (omega (arith, c, l))
+    by (w ∷ ws) a b c = record {
+      front = h.front;
+      wait = w;
+      rest = ws;
+      new_is = a;
+      place_is = h.place_is;
+      same = b;
+      size = omega (arith, c);
+      within = h.within;
+      at = ap (slice_get new) h.place_is ∙ ap (λ xs. slice_get xs (length h.front)) a ∙ get_seam h.front w ws;
+    }
 
-pub keep_one : (goal : Option ℕ) (ws : List Wait) (i : ℕ) (w : Wait) → i < length ws → w ≡ slice_index_or ws i w → wanted w.target goal ≡ false → kept goal (take (i + 1) ws) ≡ kept goal (take i ws) ++ w ∷ []
-keep_one goal ws i w l is off =
-    ap (kept goal) (take_at ws w i l ∙ ap (λ x. take i ws ++ x ∷ []) (sym is)) ∙ kept_append goal (take i ws) (w ∷ []) ∙ ap (λ b. kept goal (take i ws) ++ (if b then [] else w ∷ [])) off
+pub keep_gone : (goal : Option ℕ) (old new left : List Wait) (place count : ℕ) → KeepSoFar goal old new place count → count < length old → wanted_at goal (slice_get new place) ≡ true → left ≡ remove new place → KeepSoFar goal old left place (count + 1)
+keep_gone goal old new left place count h l on is =
+    let n = next_of goal old new place count h l in
+    let leads : wanted (n.wait).target goal ≡ true = sym (ap (wanted_at goal) n.at) ∙ on in
+    record {
+      front = n.front;
+      rest = n.rest;
+      new_is = is ∙ ap (remove new) n.place_is ∙ ap (λ xs. remove xs (length n.front)) n.new_is ∙ remove_seam n.front n.wait n.rest;
+      place_is = n.place_is;
+      same = n.same ∙ ap (λ b. n.front ++ (if b then kept goal n.rest else n.wait ∷ kept goal n.rest)) leads;
+      size = n.size;
+      within = omega (arith, n.within);
+    }
 
-pub keep_none : (goal : Option ℕ) (ws : List Wait) (i : ℕ) (w : Wait) → i < length ws → w ≡ slice_index_or ws i w → wanted w.target goal ≡ true → kept goal (take (i + 1) ws) ≡ kept goal (take i ws)
-keep_none goal ws i w l is on =
-    ap (kept goal) (take_at ws w i l ∙ ap (λ x. take i ws ++ x ∷ []) (sym is)) ∙ kept_append goal (take i ws) (w ∷ []) ∙ ap (λ b. kept goal (take i ws) ++ (if b then [] else w ∷ [])) on ∙ append-nil (kept goal (take i ws))
+pub keep_stays : (goal : Option ℕ) (old new : List Wait) (place count : ℕ) → KeepSoFar goal old new place count → count < length old → wanted_at goal (slice_get new place) ≡ false → KeepSoFar goal old new (place + 1) (count + 1)
+keep_stays goal old new place count h l off =
+    let n = next_of goal old new place count h l in
+    let leads : wanted (n.wait).target goal ≡ false = sym (ap (wanted_at goal) n.at) ∙ off in
+    record {
+      front = n.front ++ n.wait ∷ [];
+      rest = n.rest;
+      new_is = n.new_is ∙ sym (append_assoc n.front (n.wait ∷ []) n.rest);
+      place_is = omega (arith, n.place_is, length-append n.front (n.wait ∷ []));
+      same = n.same ∙ ap (λ b. n.front ++ (if b then kept goal n.rest else n.wait ∷ kept goal n.rest)) leads ∙ sym (append_assoc n.front (n.wait ∷ []) (kept goal n.rest));
+      size = n.size;
+      within = omega (arith, n.within);
+    }
+
+pub keep_whole : (goal : Option ℕ) (old new : List Wait) (place count : ℕ) → KeepSoFar goal old new place count → length old ≤ count → new ≡ kept goal old
+keep_whole goal old new place count h l = by h.rest h.new_is h.same h.size
+  where
+    by : (rest : List Wait) → new ≡ h.front ++ rest → kept goal old ≡ h.front ++ kept goal rest → count + length rest ≡ length old → new ≡ kept goal old
+    by [] a b c = a ∙ sym b
+    by (w ∷ ws) a b c = absurd (omega (arith, c, l))

@@ -22,7 +22,7 @@ use Rattle.vc_gen.specs.Signed.{SiteAsked, SitesAsked}
 use Rattle.passive_form.specs.Local.{sort_of}
 use Rattle.vc_gen.specs.Standing.{Later, AreOf}
 use Rattle.vc_gen.specs.declared.parts.SiteTerm.{SiteTerm}
-use Rattle.vc_gen.proofs.Fitness.{CurFits, Fine, cmd_fine, entry_fits, whole_same}
+use Rattle.vc_gen.proofs.Fitness.{CurFits, cmd_fine, entry_fits, whole_same}
 use Rattle.vc_gen.proofs.Growth.{are_later}
 
 -- ---- items

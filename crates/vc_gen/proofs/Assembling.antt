@@ -1,40 +1,41 @@
 -- Start, blocks and end together.
 use Rattle.flat_prog.specs.Sites.{numbers_from}
 use Rattle.vc_gen.proofs.Numbers.{numbers_then}
-use Rattle.std.proofs.Common.{◌≡◌, ℕ, zero, suc, ◌+◌, ◌<◌, Bool, true, false, ◌&&◌, ◌||◌, List, [], ◌∷◌, ◌++◌, map, length, take, drop, arith, sym, ◌∙◌, ap, refl, subst, append-nil, append_assoc, length-append}
-use Rattle.std.specs.Prelude.{Option, None, Some, slice_get, IsTrue, IsSome}
+use Rattle.std.proofs.Common.{◌≡◌, ℕ, ◌+◌, true, false, ◌||◌, List, [], ◌∷◌, ◌++◌, map, length, arith, sym, ◌∙◌, ap, refl, subst, length-append}
+use Rattle.std.specs.Prelude.{None, Some, IsTrue}
 use Rattle.std.proofs.lemmas.List.{map-append}
-use Rattle.hy_val.specs.Values.{at, is_on}
+use Rattle.hy_val.specs.Values.{is_on}
 use Rattle.hy_val.specs.declared.sort.Sort.{Sort}
 use Rattle.hy_val.specs.declared.value.Value.{Value}
 use Rattle.hy_val.specs.declared.expr.Env.{Env}
-use Rattle.hy_term.specs.TermSorts.{sorts, sort_at}
-use Rattle.hy_term.specs.Meaning.{values, value, fits}
-use Rattle.hy_term.specs.Variables.{below, reads}
+use Rattle.hy_term.specs.Meaning.{value, fits}
+use Rattle.hy_term.specs.Variables.{reads}
 use Rattle.hy_term.specs.declared.node.TermNode.{TermNode}
 use Rattle.flat_prog.specs.declared.proc.FlatProc.{FlatProc}
 use Rattle.passive_form.specs.Limited.{Limited}
-use Rattle.passive_form.specs.Local.{State, alone, sorted_as, start}
+use Rattle.passive_form.specs.Local.{sorted_as, start}
 use Rattle.flat_prog.specs.Local.{outs_of}
 use Rattle.vc_gen.specs.declared.parts.FailTerm.{FailTerm}
 use Rattle.vc_gen.proofs.Fitness.{sorts_from}
 use Rattle.vc_gen.specs.Passages.{all_passages, all_places}
-use Rattle.vc_gen.specs.Fold.{Edge, Given, fold, seen, live_edges, ends, end_env}
+use Rattle.vc_gen.specs.Fold.{Edge, fold, seen, live_edges, ends, end_env}
 use Rattle.vc_gen.specs.Breaking.{any_breaks}
 use Rattle.vc_gen.specs.Alike.{Alike}
-use Rattle.passive_form.specs.declared.Item.{Item}
 use Rattle.passive_form.specs.declared.PassiveStart.{PassiveStart}
-use Rattle.passive_form.specs.declared.PassiveBlock.{PassiveBlock}
 use Rattle.passive_form.specs.declared.Passive.{Passive}
 use Rattle.passive_form.specs.Versions.{from}
 use Rattle.flat_prog.specs.Program.{variables_of}
-use Rattle.passive_form.specs.Making.{passive_start, passive_blocks, passive_of}
+use Rattle.passive_form.specs.Making.{passive_blocks, passive_of}
 use Rattle.vc_gen.specs.declared.parts.Actuals.{Actuals}
 use Rattle.vc_gen.specs.declared.parts.Draft.{Draft}
+use Rattle.vc_gen.specs.declared.parts.ValueTerm.{ValueTerm}
+use Rattle.vc_gen.specs.Taken.{true_values, ValuesThere, all_values}
+use Rattle.vc_gen.specs.Valued.{BuiltValued}
+use Rattle.vc_gen.proofs.Taking.{values_later, values_stay}
 use Rattle.vc_gen.specs.declared.parts.Wait.{Wait}
 use Rattle.vc_gen.specs.declared.parts.EdgeTerm.{EdgeTerm}
 use Rattle.vc_gen.specs.Exact.{true_edges, SameCalls, EdgesThere, true_sites}
-use Rattle.vc_gen.specs.Standing.{Later, Plain, AreOf, variables_in}
+use Rattle.vc_gen.specs.Standing.{Later, Plain, variables_in}
 use Rattle.vc_gen.specs.Items.{bool_sort, SiteMeans, made, chosen}
 use Rattle.vc_gen.specs.Emit.{Stands, ItemsReady, Step, terms_of, site_value, SitesThere, FailsThere}
 use Rattle.vc_gen.specs.declared.parts.SiteTerm.{SiteTerm}
@@ -44,12 +45,11 @@ use Rattle.vc_gen.proofs.Asking.{asked_later}
 use Rattle.vc_gen.proofs.Placed.{none_laid, start_laid, order_laid}
 use Rattle.vc_gen.proofs.Signing.{signed_later, signed_both, start_signed}
 use Rattle.vc_gen.specs.Inputs.{sorts_of_block, sorts_of_blocks, givens_at}
-use Rattle.vc_gen.specs.Instance.{all_at, edge_at, edges_at, start_sorts, room, first_edge, Built, PartsThere, IsRoom}
-use Rattle.vc_gen.specs.Joins.{WaitOf, WaitsOf}
+use Rattle.vc_gen.specs.Instance.{all_at, edges_at, start_sorts, room, first_edge, Built, PartsThere, IsRoom}
 use Rattle.vc_gen.specs.Edges.{env_at}
-use Rattle.vc_gen.specs.Entering.{met, met_env, EnterReady, Entered}
-use Rattle.vc_gen.specs.Fitting.{PassiveFits, block_sorts, blocks_sorts, SortsAre}
-use Rattle.vc_gen.specs.Flowing.{Stage, WentSays, FlowReady, WentAll}
+use Rattle.vc_gen.specs.Entering.{met, EnterReady, Entered}
+use Rattle.vc_gen.specs.Fitting.{blocks_sorts, SortsAre}
+use Rattle.vc_gen.specs.Flowing.{Stage, FlowReady, WentAll}
 use Rattle.passive_form.specs.Laws.{AllThere}
 use Rattle.vc_gen.specs.Whole.{IsLiteral, InstanceReady, NewVariables}
 use Rattle.vc_gen.proofs.Growth.{later_then, sort_later, are_later, are_append, map_later}
@@ -63,7 +63,11 @@ use Rattle.vc_gen.proofs.Exacting.{marks_later, marks_stay, placed_later}
 use Rattle.vc_gen.proofs.Opening.{start_chosen, start_quiet, start_sites, start_begins, outs_are}
 
 abbrev pub opened : Actuals → ℕ → ℕ → ℕ → Draft
-opened actuals lit1 lit0 k = record { versions = actuals.globals ++ actuals.args; cond = lit1; fails = lit0; next = k; calls = 0; sites = []; asserts = [] }
+opened actuals lit1 lit0 k = record { versions = actuals.globals ++ actuals.args; cond = lit1; fails = lit0; next = k; calls = 0; sites = []; asserts = []; values = [] }
+
+-- what is taken as the procedure begins is no value of a block
+abbrev pub emptied : Draft → Draft
+emptied e = record e { values = [] }
 
 abbrev pub wait_from : List ℕ → PassiveStart → ℕ → Wait
 wait_from versions start live = record { target = Some 0; live = live; globals = terms_of versions start.globals; locals = terms_of versions start.locals }
@@ -97,7 +101,7 @@ pub start_ready : (old n2 : List TermNode) (p : Passive) (actuals : Actuals) (k 
 start_ready old n2 p actuals k lit1 lit0 r b = record { csorts = p.consts; vsorts = p.globals ++ p.ins; stands = open_stands old n2 p actuals k lit1 lit0 r b; fit = r.fit.start_items }
 
 pub start_stage : (old n2 n3 : List TermNode) (p : Passive) (actuals : Actuals) (k lit1 lit0 : ℕ) (e : Draft) → InstanceReady old p actuals k → Begun old n2 lit1 lit0 → Step actuals.consts 0 n2 (opened actuals lit1 lit0 k) p.start.items n3 e →
-    Stage p.consts p.globals p.locals n3 actuals.consts (wait_from e.versions p.start lit0) e (wait_from e.versions p.start lit1 ∷ [])
+    Stage p.consts p.globals p.locals n3 actuals.consts (wait_from e.versions p.start lit0) (emptied e) (wait_from e.versions p.start lit1 ∷ [])
 start_stage old n2 n3 p actuals k lit1 lit0 e r b s =
     let st = stands_then actuals.consts 0 n2 n3 (opened actuals lit1 lit0 k) e p.consts (p.globals ++ p.ins) p.start.items (open_stands old n2 p actuals k lit1 lit0 r b) s in
     let gs = are_terms n3 e.versions ((p.globals ++ p.ins) ++ made p.start.items) p.start.globals p.globals st.versions r.fit.start_globals in
@@ -113,11 +117,11 @@ start_stage old n2 n3 p actuals k lit1 lit0 e r b s =
     }
 
 pub flow_ready : (old n2 n3 : List TermNode) (p : Passive) (actuals : Actuals) (k lit1 lit0 : ℕ) (e : Draft) → InstanceReady old p actuals k → Begun old n2 lit1 lit0 → Step actuals.consts 0 n2 (opened actuals lit1 lit0 k) p.start.items n3 e →
-    FlowReady n3 actuals.consts (wait_from e.versions p.start lit0) e (wait_from e.versions p.start lit1 ∷ []) p.blocks
+    FlowReady n3 actuals.consts (wait_from e.versions p.start lit0) (emptied e) (wait_from e.versions p.start lit1 ∷ []) p.blocks
 flow_ready old n2 n3 p actuals k lit1 lit0 e r b s = record { csorts = p.consts; gsorts = p.globals; lsorts = p.locals; stage = start_stage old n2 n3 p actuals k lit1 lit0 e r b s; fit = r.fit.blocks }
 
 pub end_ready : (old n2 n3 n4 : List TermNode) (p : Passive) (actuals : Actuals) (k lit1 lit0 : ℕ) (e g : Draft) (edges : List EdgeTerm) (left : List Wait) → InstanceReady old p actuals k → Begun old n2 lit1 lit0 → Step actuals.consts 0 n2 (opened actuals lit1 lit0 k) p.start.items n3 e →
-    WentAll actuals.consts (wait_from e.versions p.start lit0) n3 e [] (wait_from e.versions p.start lit1 ∷ []) p.blocks n4 g edges left → EnterReady n4 (wait_from e.versions p.start lit0) left
+    WentAll actuals.consts (wait_from e.versions p.start lit0) n3 (emptied e) [] (wait_from e.versions p.start lit1 ∷ []) p.blocks n4 g edges left → EnterReady n4 (wait_from e.versions p.start lit0) left
 end_ready old n2 n3 n4 p actuals k lit1 lit0 e g edges left r b s w =
     let h = w.stage p.consts p.globals p.locals (start_stage old n2 n3 p actuals k lit1 lit0 e r b s) r.fit.blocks in
     record { gs = p.globals; ls = p.locals; sound = h.sound; spare_of = h.spare_of; spare_off = h.spare_off; waits_of = h.waits_of }
@@ -127,7 +131,7 @@ pub record Parts (old n2 n3 n4 new : List TermNode) (p : Passive) (actuals : Act
   pub ready : InstanceReady old p actuals k
   pub begun : Begun old n2 lit1 lit0
   pub step : Step actuals.consts 0 n2 (opened actuals lit1 lit0 k) p.start.items n3 e
-  pub went : WentAll actuals.consts (wait_from e.versions p.start lit0) n3 e [] (wait_from e.versions p.start lit1 ∷ []) p.blocks n4 g edges left
+  pub went : WentAll actuals.consts (wait_from e.versions p.start lit0) n3 (emptied e) [] (wait_from e.versions p.start lit1 ∷ []) p.blocks n4 g edges left
   pub later : Later n4 new
   pub plain : Plain n4 new
   pub entered : Entered n4 (wait_from e.versions p.start lit0) left None new end
@@ -293,6 +297,32 @@ built_of flat q order old n2 n3 n4 new actuals k lit1 lit0 e g edges left end th
       outs_are = λ a f on.
           outs_are a new end.locals q.ins q.outs q.locals w.locals ∙ ap (λ (v : Env). outs_of q v.locals) (end_is a f on);
       globals_are = λ a f on. ap (λ (x : Env). x.globals) (end_is a f on);
+    }
+
+-- the values of the blocks
+pub valued_of : (flat : Limited) (q : FlatProc) (order : List ℕ) (old n2 n3 n4 new : List TermNode) (actuals : Actuals) (k lit1 lit0 : ℕ) (e g : Draft) (edges : List EdgeTerm) (left : List Wait) (end : Wait) → AllThere flat q order →
+    Parts old n2 n3 n4 new (passive_of flat q order) actuals k lit1 lit0 e g edges left end →
+    BuiltValued flat q order actuals k old new left end.live g.fails (terms_of end.locals (from (length q.ins) q.outs)) end.globals edges g.sites g.values
+unfolding built_of
+valued_of flat q order old n2 n3 n4 new actuals k lit1 lit0 e g edges left end there h =
+    let p = passive_of flat q order in
+    let cs = actuals.consts in
+    let first = wait_from e.versions p.start lit1 in
+    let s = h.step in
+    let b = h.begun in
+    let stage3 = start_stage old n2 n3 p actuals k lit1 lit0 e h.ready b s in
+    let says = h.went.says flat q order refl there stage3 h.ready.fit.blocks in
+    let env = λ (a : ℕ → Value). env_at a n3 (all_at a n3 cs) first.globals first.locals in
+    let next_is : e.next ≡ k + length (start_sorts q q.kind) = s.next ∙ ap (λ ss. k + length ss) (start_chosen flat q q.kind) in
+    let first_is : (a : ℕ → Value) → edges_at a n3 (all_at a n3 cs) (first ∷ []) ≡ first_edge (env a) = λ a.
+    ap {B = List Edge} (λ x. record { target = Some 0; live = x; env = env a } ∷ []) (bit_later n2 n3 a lit1 s.later b.yes_is.sort ∙ b.yes_is.means a) in
+    record {
+      built = built_of flat q order old n2 n3 n4 new actuals k lit1 lit0 e g edges left end there h;
+      there = subst (λ (vs : List ValueTerm). ValuesThere new vs) (sym h.went.vals_are) (values_stay n4 new h.went.vals h.later h.went.vals_there);
+      are = λ a f.
+          ap (true_values a new) h.went.vals_are ∙ values_later n4 new a h.went.vals h.later h.went.vals_there ∙ says.values a (env a) (fits_before a n4 new h.later f)
+          ∙ ap (λ x. all_values flat q (seen flat q (env a) (givens_at flat q a x order) (edges_at a n3 (all_at a n3 cs) (first ∷ [])))) next_is
+          ∙ ap (λ x. all_values flat q (seen flat q (env a) (givens_at flat q a (k + length (start_sorts q q.kind)) order) x)) (first_is a);
     }
 
 -- the variables of the start, and those of the blocks

@@ -1,6 +1,6 @@
 -- A block does with the waiting edges what its passive form says.
-use Rattle.std.proofs.Common.{◌≡◌, ℕ, ◌+◌, Bool, true, false, not, ◌&&◌, ◌||◌, List, [], ◌∷◌, ◌++◌, map, length, sym, ◌∙◌, ap, refl, subst, append-nil}
-use Rattle.std.specs.Prelude.{Option, None, Some, if◌then◌else◌, slice_get}
+use Rattle.std.proofs.Common.{◌≡◌, ℕ, Bool, true, false, ◌&&◌, List, [], ◌++◌, sym, ◌∙◌, ap, refl, subst, append-nil}
+use Rattle.std.specs.Prelude.{Option, Some, slice_get}
 use Rattle.hy_val.specs.declared.value.Value.{Value}
 use Rattle.hy_val.specs.declared.expr.Env.{Env}
 use Rattle.flat_prog.specs.declared.block.FlatCmd.{FlatCmd}
@@ -8,10 +8,10 @@ use Rattle.flat_prog.specs.declared.block.FlatBlock.{FlatBlock}
 use Rattle.flat_prog.specs.declared.proc.FlatProc.{FlatProc}
 use Rattle.passive_form.specs.Limited.{Limited}
 use Rattle.passive_form.specs.Local.{State, alone, pass_all, cmds_of}
-use Rattle.flat_prog.specs.Local.{Result, Request}
-use Rattle.vc_gen.specs.Fold.{Edge, Given, reached, entered, others, closed, through, out_next, out_of, passed, step}
+use Rattle.flat_prog.specs.Local.{Request}
+use Rattle.vc_gen.specs.Fold.{Edge, Given, reached, entered, others, closed, out_next, passed, step}
 use Rattle.vc_gen.specs.Alike.{Alike}
-use Rattle.vc_gen.proofs.Alikes.{alike_same, alike_is, alike_append, out_off, off_passed}
+use Rattle.vc_gen.proofs.Alikes.{alike_same, alike_append, out_off, off_passed}
 use Rattle.passive_form.specs.declared.Item.{Item}
 use Rattle.passive_form.specs.Versions.{Cur, env_of, Defined, hold, taken_values, taken_results, made_calls}
 use Rattle.passive_form.specs.Making.{items_all, cur_end, entry_cur, entry_count}

@@ -1,6 +1,6 @@
 -- What a run settles: whatever the blocks say that it does not pass, the blocks say the run.
-use Rattle.std.proofs.Common.{◌≡◌, ℕ, ◌+◌, zero, suc, Bool, true, false, not, ◌&&◌, ◌||◌, List, [], ◌∷◌, ◌++◌, map, length, arith, sym, ◌∙◌, ap, refl, subst, inl, inr, append-nil, append_assoc}
-use Rattle.std.specs.Prelude.{Option, None, Some, nat_eq, if◌then◌else◌, slice_get, ◌⊎◌}
+use Rattle.std.proofs.Common.{◌≡◌, ℕ, ◌+◌, suc, Bool, true, false, ◌||◌, List, [], ◌∷◌, ◌++◌, map, arith, sym, ◌∙◌, ap, refl, subst, inl, append-nil}
+use Rattle.std.specs.Prelude.{Option, None, Some, nat_eq, slice_get}
 use Rattle.std.specs.Option.{option_and_then}
 use Rattle.std.proofs.lemmas.Bool.Decides.{nat_tests}
 use Rattle.hy_val.specs.declared.expr.Env.{Env}
@@ -14,7 +14,7 @@ use Rattle.flat_prog.specs.Local.{Result, Request, edges_of}
 use Rattle.flat_prog.specs.Shape.{place_at, place_of}
 use Rattle.flat_prog.specs.Ordering.{is_in, Onward}
 use Rattle.vc_gen.specs.Fold.{Edge, Given, others, fan, out_next, step, fold, edges_next, One, choice_count, last_of}
-use Rattle.vc_gen.specs.BlockPlans.{Entry, Any, Is, Stop, Keeps, Agree, Settled, AllSettled, Off, StopsAt}
+use Rattle.vc_gen.specs.BlockPlans.{Entry, Any, Is, Stop, Agree, AllSettled, Off, StopsAt}
 use Rattle.vc_gen.proofs.Frames.{and_then_some}
 use Rattle.vc_gen.proofs.Edges.{one_dead, one_unreached, one_right, end_step, end_fold}
 use Rattle.vc_gen.proofs.Used.{Used, pass_all_used}

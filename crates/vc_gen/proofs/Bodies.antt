@@ -1,24 +1,23 @@
 -- A block becomes terms: from the edges that lead in to those that are left.
 use Rattle.flat_prog.specs.Sites.{numbers_from}
 use Rattle.vc_gen.proofs.Numbers.{numbers_then}
-use Rattle.std.proofs.Common.{◌≡◌, ℕ, zero, suc, ◌+◌, ◌-◌, ◌<◌, ◌≤◌, Bool, true, false, not, ◌&&◌, ◌||◌, List, [], ◌∷◌, ◌++◌, map, length, take, drop, replicate, arith, sym, ◌∙◌, ap, refl, subst, append-nil, append_assoc, length-append}
-use Rattle.std.specs.Prelude.{Option, None, Some, slice_get, slice_index, slice_index_or, if◌then◌else◌, IsTrue, IsSome}
+use Rattle.std.proofs.Common.{◌≡◌, ℕ, zero, suc, ◌+◌, Bool, true, false, ◌&&◌, ◌||◌, List, [], ◌++◌, map, length, replicate, arith, sym, ◌∙◌, ap, refl, subst, append-nil, append_assoc, length-append}
+use Rattle.std.specs.Prelude.{Option, Some, slice_get, if◌then◌else◌, IsTrue}
 use Rattle.std.proofs.lemmas.List.{map-append}
 use Rattle.hy_val.specs.Values.{at, is_on}
 use Rattle.hy_val.specs.declared.sort.Sort.{Sort}
 use Rattle.hy_val.specs.declared.value.Value.{Value}
 use Rattle.hy_val.specs.declared.expr.Env.{Env}
-use Rattle.hy_term.specs.TermSorts.{sorts, sort_at}
-use Rattle.hy_term.specs.Meaning.{values, value, fits}
-use Rattle.hy_term.specs.Variables.{below, reads}
+use Rattle.hy_term.specs.TermSorts.{sort_at}
+use Rattle.hy_term.specs.Meaning.{value, fits}
+use Rattle.hy_term.specs.Variables.{reads}
 use Rattle.hy_term.specs.declared.node.TermNode.{TermNode}
-use Rattle.flat_prog.specs.declared.block.FlatCmd.{FlatCmd}
 use Rattle.flat_prog.specs.declared.block.FlatBlock.{FlatBlock}
 use Rattle.flat_prog.specs.declared.proc.FlatProc.{FlatProc}
 use Rattle.passive_form.specs.Limited.{Limited}
-use Rattle.passive_form.specs.Local.{State, alone, sorted_as, cmds_of}
+use Rattle.passive_form.specs.Local.{alone, sorted_as, cmds_of}
 use Rattle.flat_prog.specs.Local.{Result}
-use Rattle.vc_gen.specs.Fold.{Edge, Given, Seen, seen_at, reached, entered, others, out_next, step, choice_count}
+use Rattle.vc_gen.specs.Fold.{Edge, seen_at, reached, entered, others, out_next, step, choice_count}
 use Rattle.vc_gen.specs.Breaking.{breaks, breaks_seen}
 use Rattle.vc_gen.specs.Passages.{Passage, passages, passages_seen, targets_on, places_from}
 use Rattle.vc_gen.proofs.Marks.{out_targets}
@@ -30,7 +29,7 @@ use Rattle.vc_gen.proofs.Counting.{counted_later, step_counted}
 use Rattle.vc_gen.proofs.Signing.{signed_later, cmds_signed}
 use Rattle.passive_form.specs.declared.Item.{Item}
 use Rattle.passive_form.specs.declared.PassiveBlock.{PassiveBlock}
-use Rattle.passive_form.specs.Versions.{Cur, env_of, Defined, hold, taken_values, taken_results}
+use Rattle.passive_form.specs.Versions.{env_of, Defined, taken_values, taken_results}
 use Rattle.flat_prog.specs.Program.{variables_of}
 use Rattle.passive_form.specs.Making.{entry_cur, entry_count, items_all, cur_end, block_or, passive_block}
 use Rattle.passive_form.specs.Laws.{cmds_there}
@@ -39,16 +38,16 @@ use Rattle.vc_gen.specs.declared.parts.Wait.{Wait}
 use Rattle.vc_gen.specs.declared.parts.EdgeTerm.{EdgeTerm}
 use Rattle.vc_gen.specs.Exact.{edge_terms, EdgesThere, SameCalls}
 use Rattle.vc_gen.specs.Standing.{Later, Plain, AreOf, variables_in}
-use Rattle.vc_gen.specs.Items.{bool_sort, SiteMeans, made, chosen, inputs, fails_in, sites_in}
-use Rattle.vc_gen.specs.Inputs.{values_in, results_in, block_at, items_at, choices_at, given_at}
+use Rattle.vc_gen.specs.Items.{bool_sort, SiteMeans, made, chosen, inputs, sites_in}
+use Rattle.vc_gen.specs.Inputs.{values_in, results_in, items_at, choices_at, given_at}
 use Rattle.vc_gen.specs.Instance.{all_at, edge_at, edges_at}
-use Rattle.vc_gen.specs.Joins.{WaitOf, WaitsOf}
-use Rattle.vc_gen.specs.Edges.{ListThere, env_at, picked}
+use Rattle.vc_gen.specs.Joins.{WaitsOf}
+use Rattle.vc_gen.specs.Edges.{env_at, picked}
 use Rattle.vc_gen.specs.Entering.{met, met_env, kept, EnterReady, Entered}
 use Rattle.vc_gen.specs.Fitting.{BlockFits, block_sorts}
 use Rattle.vc_gen.specs.Flowing.{LeftBy, Stage, BlockReady, BlockSays, BlockDone}
-use Rattle.vc_gen.proofs.Growth.{later_then, value_later, sort_later, sort_within, are_later, are_append, are_count, map_later}
-use Rattle.vc_gen.proofs.Joining.{fits_before, stands_then, sites_later, sites_stay, reads_append, length_reads, sorts_left, sorts_right, fails_stay, fails_there_append}
+use Rattle.vc_gen.proofs.Growth.{later_then, sort_later, are_later, are_append, are_count, map_later}
+use Rattle.vc_gen.proofs.Joining.{fits_before, stands_then, sites_later, sites_stay, reads_append, length_reads, sorts_left, sorts_right, fails_stay}
 use Rattle.vc_gen.proofs.Passes.{bit_later}
 use Rattle.vc_gen.proofs.Calling.{span_values}
 use Rattle.vc_gen.proofs.Fanning.{edges_later, of_later, all_later, of_append}
@@ -58,6 +57,9 @@ use Rattle.vc_gen.proofs.Failing.{broken, fails_or, off_broken}
 use Rattle.vc_gen.proofs.Breakages.{breaks_is}
 use Rattle.vc_gen.proofs.Outward.{are_terms}
 use Rattle.vc_gen.proofs.Exacting.{edges_there, marks_are, off_calls, on_calls, placed_same}
+use Rattle.vc_gen.specs.Taken.{true_values, values_on, values_seen, frees_in}
+use Rattle.vc_gen.proofs.Taking.{values_later, values_stay}
+use Rattle.vc_gen.proofs.Havocs.{off_frees, on_values}
 
 -- ---- the fail bit of a block
 
@@ -67,6 +69,10 @@ same_env c g g' l l' p q = cc
 off_or_on : (r : Bool) (f : Bool → Bool) (x : Bool) → f false ≡ false → (r ≡ true → f true ≡ x) → f r ≡ (r && x)
 off_or_on true f x h k = k refl
 off_or_on false f x h k = h
+
+where_on : (r : Bool) (f : Bool → List Value) (x : List Value) → f false ≡ [] → (r ≡ true → f true ≡ x) → f r ≡ (if r then x else [])
+where_on true f x h k = k refl
+where_on false f x h k = h
 
 module _ (flat : Limited) (q : FlatProc) (cs : List ℕ) (n : ℕ) (b : FlatBlock) (before new : List TermNode) (d e : Draft) (globals locals : List ℕ) (csorts : List Sort)
     (at_n : slice_get q.blocks n ≡ Some b) (there : cmds_there flat q b.cmds ≡ true)
@@ -174,6 +180,48 @@ module _ (flat : Limited) (q : FlatProc) (cs : List ℕ) (n : ℕ) (b : FlatBloc
       by true x y ps ms p k h off = subst (λ (z : List SiteMeans). SameCalls z (ps true)) (sym p) (h refl)
       by false x y ps ms p k h off = subst (λ (z : List SiteMeans). SameCalls z (ps false)) (sym k) off
 
+  pub block_values : (a : ℕ → Value) (dead : Env) (es : List Edge) → IsTrue (fits a new) → is_on (value a before d.cond) ≡ reached n es →
+      (reached n es ≡ true → record { consts = all_at a before cs; globals = all_at a before globals; locals = all_at a before locals } ≡ entered n dead es) →
+      true_values a new s.values ≡ values_seen flat q (seen_at dead (given_at flat q a d.next n) es)
+  block_values a dead es f on env =
+      let items = items_all flat q (entry_cur flat q) 0 (entry_count flat q) b.cmds in
+      let vals = vals_at a new e.versions in
+      let consts = all_at a new cs in
+      let m = meant_at a new cs e.versions in
+      let says = s.says a consts vals f m in
+      let defined : Defined consts vals items = subst (λ (xs : List Item). Defined consts vals xs) own_is says.defined in
+      let here : items_at flat q n ≡ items = ap (λ (o : Option FlatBlock). items_all flat q (entry_cur flat q) 0 (entry_count flat q) (block_or o).cmds) at_n in
+      let row : e.versions ≡ [] ++ (globals ++ (locals ++ s.more)) = s.versions ∙ ap (λ x. x ++ s.more) versions ∙ append_assoc globals locals s.more in
+      let row2 : e.versions ≡ globals ++ (locals ++ s.more) = row in
+      let ng = are_count before globals flat.globals g_are in
+      let nl = are_count before locals (variables_of q) l_are in
+      let g_is : map vals (entry_cur flat q).globals ≡ all_at a before globals =
+      span_values a new e.versions vals m.each [] globals (locals ++ s.more) flat.globals 0 row refl ng ∙ map_later before new a globals flat.globals s.later g_are in
+      let l_is : map vals (entry_cur flat q).locals ≡ all_at a before locals =
+      span_values a new e.versions vals m.each globals locals s.more (variables_of q) (length flat.globals) row2 ng nl ∙ map_later before new a locals (variables_of q) s.later l_are in
+      let c_is : consts ≡ all_at a before cs = map_later before new a cs csorts s.later c_are in
+      let entry : reached n es ≡ true → env_of consts vals (entry_cur flat q) ≡ entered n dead es = λ y.
+      ap (λ x. record { consts = x; globals = map vals (entry_cur flat q).globals; locals = map vals (entry_cur flat q).locals }) c_is
+      ∙ same_env (all_at a before cs) (map vals (entry_cur flat q).globals) (all_at a before globals) (map vals (entry_cur flat q).locals) (all_at a before locals) g_is l_is ∙ env y in
+      let says_inputs : inputs vals items ≡ reads a d.next (length (chosen items)) = sym (ap (inputs vals) own_is) ∙ says.inputs_are ∙ ap (λ xs. reads a d.next (length (chosen xs))) own_is in
+      let chosen_is : reads a d.next (length (chosen (items_at flat q n))) ≡ inputs vals items = ap (λ i. reads a d.next (length (chosen i))) here ∙ sym says_inputs in
+      let g = given_at flat q a d.next n in
+      let v_is : taken_values vals items ++ [] ≡ g.values =
+      append-nil (taken_values vals items) ∙ sym (ap (λ i. values_in i (reads a d.next (length (chosen (items_at flat q n))))) here ∙ ap (values_in items) chosen_is ∙ values_read vals items) in
+      let r_is : taken_results vals items ++ [] ≡ g.results =
+      append-nil (taken_results vals items) ∙ sym (ap (λ i. results_in i (reads a d.next (length (chosen (items_at flat q n))))) here ∙ ap (results_in items) chosen_is ∙ results_read vals items) in
+      let cur = entry_cur flat q in
+      let v = entered n dead es in
+      let values_are : true_values a new s.values ≡ frees_in consts vals (reached n es) items =
+      s.taken a consts vals f m ∙ ap (frees_in consts vals (is_on (value a before d.cond))) own_is ∙ ap (λ y. frees_in consts vals y items) on in
+      let on_law : reached n es ≡ true → frees_in consts vals true items ≡ values_on flat q (cmds_of (slice_get q.blocks n)) (alone v g.values g.results []) = λ y.
+      on_values flat q consts vals cur 0 (entry_count flat q) b.cmds [] [] [] there defined
+      ∙ ap (λ x. values_on flat q b.cmds (alone x (taken_values vals items ++ []) (taken_results vals items ++ []) [])) (entry y)
+      ∙ ap (λ x. values_on flat q b.cmds (alone v x (taken_results vals items ++ []) [])) v_is
+      ∙ ap (λ x. values_on flat q b.cmds (alone v g.values x [])) r_is
+      ∙ ap (λ (o : Option FlatBlock). values_on flat q (cmds_of o) (alone v g.values g.results [])) (sym at_n) in
+      values_are ∙ where_on (reached n es) (λ y. frees_in consts vals y items) (values_on flat q (cmds_of (slice_get q.blocks n)) (alone v g.values g.results [])) (off_frees consts vals items) on_law
+
 -- ---- the parts of a block together
 
 pub enter_ready : (csorts gsorts lsorts : List Sort) (nodes : List TermNode) (cs : List ℕ) (spare : Wait) (d : Draft) (waits : List Wait) → Stage csorts gsorts lsorts nodes cs spare d waits → EnterReady nodes spare waits
@@ -261,7 +309,7 @@ module _ (cs : List ℕ) (spare : Wait) (old mid low new : List TermNode) (d e g
       }
 
   block_says : (flat : Limited) (q : FlatProc) (m : ℕ) (b : FlatBlock) → slice_get q.blocks m ≡ Some b → cmds_there flat q b.cmds ≡ true → block ≡ passive_block flat q m b →
-      Stage flat.consts flat.globals (variables_of q) old cs spare d waits → BlockSays flat q m cs old d waits new g left (edge_terms block.number 0 out) s.sites s.asserts
+      Stage flat.consts flat.globals (variables_of q) old cs spare d waits → BlockSays flat q m cs old d waits new g left (edge_terms block.number 0 out) s.sites s.asserts s.values
   block_says flat q m b at there is h =
       let items = items_all flat q (entry_cur flat q) 0 (entry_count flat q) b.cmds in
       let leave = cur_end flat (entry_cur flat q) (entry_count flat q) b.cmds in
@@ -317,6 +365,9 @@ module _ (cs : List ℕ) (spare : Wait) (old mid low new : List TermNode) (d e g
             ∙ out_targets flat q dead (given_at flat q a d.next m) (es a) (edges_at a new (all_at a new cs) o.more) b at (alike_both a dead f);
         calls = calls_same;
         places = λ a dead f. placed_same a new m 0 s.sites (passages_seen flat q (seen_at dead (given_at flat q a d.next m) (es a))) (s.numbered ∙ ap (λ x. places_from x 0 (length s.sites)) number_is) (calls_same a dead f);
+        values = λ a dead f.
+            values_later low new a s.values o.later s.values_there
+            ∙ block_values flat q cs m b mid low (at_entry d entry) e entry.globals entry.locals flat.consts at there refl c_mid w.globals w.locals block.number block.items (ap (λ (x : PassiveBlock). x.items) is) s a dead (es a) (fits_before a low new o.later f) (on_is a f) (env_is a dead f);
         signed = signed_later flat low new s.sites o.later (cmds_signed flat q (entry_cur flat q) 0 (entry_count flat q) b.cmds low s.sites (subst (λ (x : PassiveBlock). SitesOf low x.items s.sites) is s.sites_of));
         single = λ a dead f.
             let f1 = fits_before a low new o.later f in
@@ -358,6 +409,9 @@ module _ (cs : List ℕ) (spare : Wait) (old mid low new : List TermNode) (d e g
         asserts = s.asserts;
         asserts_are = ap (λ (x : Draft). x.asserts) o.frame ∙ s.asserts_behind;
         asserts_there = fails_stay low new s.asserts o.later s.asserts_there;
+        vals = s.values;
+        vals_are = ap (λ (x : Draft). x.values) o.frame ∙ s.values_behind;
+        vals_there = values_stay low new s.values o.later s.values_there;
         checked = s.checked;
         next = omega (arith, o.next_is, s.next, total);
         numbers = numbers_then (variables_in old) (variables_in low) (variables_in new) d.next e.next c k (length (block_sorts block)) (s.variables ∙ ap (λ r. r ++ numbers_from d.next c) p1.numbers) s.next o.numbers total;

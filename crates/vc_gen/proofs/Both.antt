@@ -1,31 +1,19 @@
 -- A run ends or fails, and never both.
-use Rattle.std.proofs.Common.{◌≡◌, ℕ, ◌+◌, zero, suc, Bool, true, false, not, ◌&&◌, ◌||◌, List, [], ◌∷◌, ◌++◌, map, length, arith, sym, ◌∙◌, ap, refl, subst, inl, inr, append-nil, append_assoc, length-append}
-use Rattle.std.specs.Prelude.{Option, None, Some, nat_eq, if◌then◌else◌, slice_get, ◌⊎◌}
-use Rattle.std.specs.Option.{option_and_then}
-use Rattle.std.proofs.lemmas.List.{map-append, length-map}
-use Rattle.hy_val.specs.declared.value.Value.{Value}
+use Rattle.std.proofs.Common.{◌≡◌, ℕ, Bool, true, false, ◌&&◌, ◌||◌, List, [], ◌∷◌, ◌++◌, sym, ◌∙◌, ap, refl, subst, inl}
+use Rattle.std.specs.Prelude.{Option, None, Some, nat_eq, slice_get}
 use Rattle.hy_val.specs.declared.expr.Env.{Env}
-use Rattle.flat_prog.specs.declared.block.FlatCmd.{FlatCmd}
-use Rattle.flat_prog.specs.declared.block.FlatCmd.TheVariants.{Assign, Havoc, Assume, Assert, Call}
 use Rattle.flat_prog.specs.declared.block.FlatNext.{FlatNext}
 use Rattle.flat_prog.specs.declared.block.FlatNext.TheVariants.{Goto, Return}
 use Rattle.flat_prog.specs.declared.block.FlatBlock.{FlatBlock}
 use Rattle.flat_prog.specs.declared.proc.FlatProc.{FlatProc}
 use Rattle.passive_form.specs.Limited.{Limited}
-use Rattle.passive_form.specs.Local.{State, alone, request, come_back, pass, pass_all, cmds_of, fail, over, LocalFails}
-use Rattle.flat_prog.specs.Local.{Result, Ended, Broken, Request, edges_of}
-use Rattle.hy_val.specs.Stores.{holds}
-use Rattle.flat_prog.specs.Shape.{place_of}
-use Rattle.vc_gen.specs.Fold.{Edge, Given, Seen, seen, seen_at, reached, entered, others, closed, through, fan, out_next, out_of, passed, step, fold, edges_next, edges_out, live_edges, Dead, One, ends}
-use Rattle.vc_gen.specs.Breaking.{bad_call, breaks_at, test_some, breaks, breaks_seen, any_breaks}
-use Rattle.vc_gen.specs.Passages.{Passage, next_result, passage_at, behind, passages, passages_seen, all_passages, on_requests, on_results}
-use Rattle.vc_gen.proofs.Frames.{and_then_some, pass_all_frame}
-use Rattle.vc_gen.proofs.Edges.{dead_append, dead_out, dead_reached, dead_step, one_reached, one_entered, one_dead, one_unreached, one_right, end_step, dead_fold, dead_ends}
-use Rattle.vc_gen.proofs.Used.{Used, pass_all_used}
-use Rattle.vc_gen.proofs.Reach.{Reaches, stays, goes_on, edges_off, Taken, taken}
-use Rattle.vc_gen.proofs.Sound.{closed_is, number_is, same_state}
-use Rattle.vc_gen.proofs.Breaches.{break_place, BreakPlace}
-use Rattle.vc_gen.proofs.Traces.{requests_append, results_append, Passes, all_passes, Quiet, quiet_both, quiet_cmds, quiet_seen, Still, still_next, end_still}
+use Rattle.passive_form.specs.Local.{State, alone, pass_all, cmds_of}
+use Rattle.vc_gen.specs.Fold.{Edge, Given, seen, entered, others, closed, through, fan, out_next, out_of, passed, step, fold, Dead, One, ends}
+use Rattle.vc_gen.specs.Breaking.{breaks, any_breaks}
+use Rattle.vc_gen.proofs.Edges.{dead_append, dead_out, one_reached, one_entered, one_dead, one_unreached, one_right, end_step, dead_fold, dead_ends}
+use Rattle.vc_gen.proofs.Reach.{taken}
+use Rattle.vc_gen.proofs.Sound.{number_is}
+use Rattle.vc_gen.proofs.Breaches.{break_place}
 use Rattle.vc_gen.proofs.Failures.{off_breaks, dead_whole, end_whole, stop_all}
 
 abbrev Rest : Limited → FlatProc → Env → List Given → Type 0

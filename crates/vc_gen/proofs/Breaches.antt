@@ -1,6 +1,6 @@
 -- Blocks that are reached and fail.
-use Rattle.std.proofs.Common.{◌≡◌, ℕ, zero, suc, ◌+◌, Bool, true, false, not, ◌&&◌, ◌||◌, List, [], ◌∷◌, ◌++◌, map, length, take, sym, ◌∙◌, ap, refl, subst, inl, inr, append-nil, append_assoc}
-use Rattle.std.specs.Prelude.{Option, None, Some, if◌then◌else◌, slice_get, ◌⊎◌}
+use Rattle.std.proofs.Common.{◌≡◌, ℕ, zero, suc, Bool, true, false, not, ◌&&◌, ◌||◌, List, [], ◌∷◌, ◌++◌, take, sym, ◌∙◌, ap, refl, inr}
+use Rattle.std.specs.Prelude.{Option, None, Some, if◌then◌else◌, slice_get}
 use Rattle.std.specs.Option.{option_and_then}
 use Rattle.hy_val.specs.declared.value.Value.{Value}
 use Rattle.hy_val.specs.declared.expr.Env.{Env}
@@ -9,11 +9,11 @@ use Rattle.flat_prog.specs.declared.block.FlatCmd.TheVariants.{Assign, Havoc, As
 use Rattle.flat_prog.specs.declared.block.FlatBlock.{FlatBlock}
 use Rattle.flat_prog.specs.declared.proc.FlatProc.{FlatProc}
 use Rattle.passive_form.specs.Limited.{Limited}
-use Rattle.passive_form.specs.Local.{State, alone, request, cmds_of, pass, pass_all, fail, over, call_fails}
-use Rattle.flat_prog.specs.Local.{Result, Ended, Broken, Request}
+use Rattle.passive_form.specs.Local.{State, alone, request, cmds_of, pass, pass_all, fail, over}
+use Rattle.flat_prog.specs.Local.{Result, Broken, Request}
 use Rattle.hy_val.specs.Stores.{holds}
 use Rattle.vc_gen.specs.Fold.{Edge, Given, Seen, seen_at, seen, reached, entered, step, fold, live_edges, One}
-use Rattle.vc_gen.specs.Breaking.{bad_call, breaks_at, test_some, breaks, breaks_seen, any_breaks}
+use Rattle.vc_gen.specs.Breaking.{breaks_at, test_some, breaks, breaks_seen, any_breaks}
 use Rattle.vc_gen.specs.Alike.{Alike}
 use Rattle.vc_gen.proofs.Alikes.{alike_reached, alike_entered}
 use Rattle.vc_gen.proofs.Reach.{Reaches, reach}

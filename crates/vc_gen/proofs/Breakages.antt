@@ -1,22 +1,19 @@
 -- Where items fail, the commands do.
-use Rattle.std.proofs.Common.{◌≡◌, ℕ, zero, suc, ◌+◌, Bool, true, false, not, ◌&&◌, ◌||◌, List, [], ◌∷◌, ◌++◌, map, length, sym, ◌∙◌, ap, refl, subst, append-nil, append_assoc}
-use Rattle.std.specs.Prelude.{Option, None, Some, if◌then◌else◌, slice_get}
-use Rattle.hy_val.specs.Exprs.{eval, eval_by}
+use Rattle.std.proofs.Common.{◌≡◌, ℕ, ◌+◌, Bool, true, false, not, ◌||◌, List, [], ◌∷◌, ◌++◌, map, sym, ◌∙◌, ap, refl, append_assoc}
+use Rattle.std.specs.Prelude.{if◌then◌else◌}
 use Rattle.hy_val.specs.Values.{is_on}
 use Rattle.hy_val.specs.declared.value.Value.{Value}
 use Rattle.hy_val.specs.declared.expr.Env.{Env}
 use Rattle.flat_prog.specs.declared.block.FlatCmd.{FlatCmd}
 use Rattle.flat_prog.specs.declared.block.FlatCmd.TheVariants.{Assign, Havoc, Assume, Assert, Call}
-use Rattle.flat_prog.specs.declared.block.FlatBlock.{FlatBlock}
 use Rattle.flat_prog.specs.declared.proc.FlatProc.{FlatProc}
 use Rattle.passive_form.specs.Limited.{Limited}
 use Rattle.passive_form.specs.Local.{changed_sorts, State, alone, pass}
 use Rattle.flat_prog.specs.Local.{Result, Ended, Broken, Request}
-use Rattle.hy_val.specs.Stores.{holds}
 use Rattle.vc_gen.specs.Breaking.{bad_call, breaks_at, test_some, breaks}
 use Rattle.passive_form.specs.declared.Item.{Item}
-use Rattle.passive_form.specs.Versions.{Cur, look_at, env_of, Defined, hold, outs_from, after_from, taken_values, site_result, taken_results, made_calls}
-use Rattle.passive_form.specs.Making.{over_versions, lets, frees, callee_outs, items_of, cur_after, next_after, items_all}
+use Rattle.passive_form.specs.Versions.{Cur, env_of, Defined, hold, outs_from, after_from, taken_values, taken_results, made_calls}
+use Rattle.passive_form.specs.Making.{callee_outs, items_of, cur_after, next_after, items_all}
 use Rattle.passive_form.specs.Laws.{cmd_there, cmds_there, outcome}
 use Rattle.passive_form.proofs.Passing.{eval_is, defined_left, defined_right, pass_is, values_append, results_append}
 use Rattle.vc_gen.specs.Items.{on_end, fails_in}

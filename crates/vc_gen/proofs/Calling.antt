@@ -1,8 +1,8 @@
 -- A call becomes terms.
 use Rattle.flat_prog.specs.Sites.{numbers_from}
-use Rattle.std.proofs.Common.{◌≡◌, ℕ, zero, suc, ◌+◌, ◌-◌, ◌<◌, ◌≤◌, Bool, true, false, not, ◌&&◌, ◌||◌, List, [], ◌∷◌, ◌++◌, map, length, take, arith, sym, ◌∙◌, ap, refl, subst, append-nil, append_assoc, length-append}
+use Rattle.std.proofs.Common.{◌≡◌, ℕ, zero, suc, ◌+◌, ◌<◌, ◌≤◌, Bool, true, false, not, ◌&&◌, ◌||◌, List, [], ◌∷◌, ◌++◌, map, length, take, arith, sym, ◌∙◌, ap, refl, subst, append-nil, append_assoc, length-append}
 use Rattle.std.specs.Prelude.{Option, None, Some, slice_get, slice_index, slice_index_or, IsTrue, IsSome}
-use Rattle.std.proofs.lemmas.List.{map-append, length-map}
+use Rattle.std.proofs.lemmas.List.{map-append}
 use Rattle.hy_val.specs.Exprs.{eval_by}
 use Rattle.hy_val.specs.Values.{at, is_on, has_sort}
 use Rattle.hy_val.specs.declared.sort.Sort.{Sort}
@@ -14,10 +14,9 @@ use Rattle.hy_term.specs.Variables.{below, reads}
 use Rattle.hy_term.specs.declared.node.TermNode.{TermNode}
 use Rattle.hy_term.specs.declared.node.TermNode.TheVariants.{Variable}
 use Rattle.passive_form.specs.Local.{sorted_as, replaced}
-use Rattle.passive_form.specs.declared.Item.{Item}
 use Rattle.passive_form.specs.declared.Item.TheVariants.{Site}
 use Rattle.passive_form.specs.Making.{sort_or}
-use Rattle.passive_form.specs.Versions.{look_at, from, outs_from, after_from, eval_all, Defined}
+use Rattle.passive_form.specs.Versions.{look_at, from, outs_from, after_from, eval_all}
 use Rattle.passive_form.proofs.Passing.{map_replaced}
 use Rattle.hy_val.specs.Building.{whole_sort}
 use Rattle.hy_val.proofs.Lawful.{keep_sorts}
@@ -26,12 +25,12 @@ use Rattle.vc_gen.specs.declared.parts.Draft.{Draft}
 use Rattle.vc_gen.specs.declared.parts.SiteTerm.{SiteTerm}
 use Rattle.vc_gen.specs.Standing.{Later, Plain, AreOf, variables_in}
 use Rattle.vc_gen.specs.Translate.{ReadsFit, Says as ExprSays}
-use Rattle.vc_gen.specs.Items.{bool_sort, ReadsIn, AllRead, AllThere, AreSorts, SiteMeans, sorts_of_all, chosen, made}
+use Rattle.vc_gen.specs.Items.{bool_sort, ReadsIn, AllRead, AllThere, AreSorts, SiteMeans, sorts_of_all, chosen}
 use Rattle.vc_gen.specs.Laid.{Laid}
-use Rattle.vc_gen.specs.Emit.{AllBefore, AllBehind, AreVariables, row_of, Stands, ItemReady, ArgsReady, ArgsSay, Meant, Fresh, IsNot, Passed, terms_of, site_value, Says, Step}
+use Rattle.vc_gen.specs.Emit.{AllBefore, AllBehind, AreVariables, row_of, ItemReady, ArgsReady, ArgsSay, Meant, Fresh, IsNot, Passed, terms_of, Step}
 use Rattle.vc_gen.proofs.Looking.{take_at, take_all}
 use Rattle.vc_gen.proofs.Growth.{later_same, later_then, plain_same, plain_then, value_later, sort_later, sort_within, are_later, are_append, are_count, are_at, map_later}
-use Rattle.vc_gen.proofs.Joining.{variables_stay, take_grown, meant_back, and_first, and_second, and_two, fits_before}
+use Rattle.vc_gen.proofs.Joining.{variables_stay, take_grown, meant_back, and_two, fits_before}
 use Rattle.vc_gen.proofs.Passes.{bit_later}
 use Rattle.vc_gen.proofs.Steps.{reads_fit, expr_value, sort_is}
 use Rattle.vc_gen.proofs.Zeros.{cancel}
@@ -310,6 +309,10 @@ module _ (cs : List ℕ) (block : ℕ) (old : List TermNode) (d : Draft) (p f : 
         asserts_there = tt;
         asserts_behind = g_asserts ∙ e_asserts ∙ sym (append-nil d.asserts);
         checked = refl;
+        values = [];
+        values_there = tt;
+        values_behind = ap (λ (x : Draft). x.values) w.draft_is ∙ ap (λ (x : Draft). x.values) fresh.draft_is ∙ sym (append-nil d.values);
+        taken = λ a consts vals f m. refl;
         says = λ a consts vals fit m.
             let f3 = fits_before a m3 new l4 fit in
             let f2 = fits_before a m2 m3 l3 f3 in

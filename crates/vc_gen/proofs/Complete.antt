@@ -1,20 +1,19 @@
 -- From a run that ends to values of the blocks, in an order in which each edge leads on.
-use Rattle.std.proofs.Common.{◌≡◌, ℕ, ◌+◌, ◌-◌, ◌<◌, zero, suc, Bool, true, false, not, ◌&&◌, ◌||◌, List, [], ◌∷◌, ◌++◌, map, length, arith, sym, ◌∙◌, ap, refl, subst, inl, inr, append-nil}
-use Rattle.std.specs.Prelude.{Option, None, Some, nat_eq, if◌then◌else◌, slice_get, ◌⊎◌, option_and_then}
+use Rattle.std.proofs.Common.{◌≡◌, ℕ, ◌-◌, zero, suc, Bool, true, false, ◌||◌, List, [], ◌∷◌, ◌++◌, map, length, arith, sym, ◌∙◌, ap, refl, subst, inl, inr}
+use Rattle.std.specs.Prelude.{Option, None, Some, nat_eq, if◌then◌else◌, slice_get, option_and_then}
 use Rattle.std.proofs.lemmas.Bool.Decides.{nat_tests}
 use Rattle.std.proofs.lemmas.Grind.{common_steps}
-use Rattle.hy_val.specs.declared.value.Value.{Value}
 use Rattle.hy_val.specs.declared.expr.Env.{Env}
 use Rattle.flat_prog.specs.declared.block.FlatNext.{FlatNext}
 use Rattle.flat_prog.specs.declared.block.FlatNext.TheVariants.{Goto, Return}
 use Rattle.flat_prog.specs.declared.block.FlatBlock.{FlatBlock}
 use Rattle.flat_prog.specs.declared.proc.FlatProc.{FlatProc}
 use Rattle.passive_form.specs.Limited.{Limited}
-use Rattle.passive_form.specs.Local.{State, alone, LocalEnds, AllTaken, walk, pass_all, cmds_of, is_target}
-use Rattle.flat_prog.specs.Local.{Request, Result, Track, outs_of}
+use Rattle.passive_form.specs.Local.{State, alone, AllTaken, walk, pass_all, cmds_of, is_target}
+use Rattle.flat_prog.specs.Local.{Request}
 use Rattle.flat_prog.specs.Shape.{place_at, place_of}
 use Rattle.flat_prog.specs.Ordering.{is_in, Onward}
-use Rattle.vc_gen.specs.Fold.{Edge, Given, reached, entered, others, through, closed, is_nil, fan, out_next, out_of, passed, step, fold, Dead, One, ends, end_env, choice_count}
+use Rattle.vc_gen.specs.Fold.{Edge, Given, reached, others, through, closed, fan, out_next, passed, step, fold, Dead, One, choice_count}
 use Rattle.vc_gen.proofs.Frames.{and_then_some}
 use Rattle.vc_gen.proofs.Edges.{one_reached, one_entered, one_dead, one_right, end_step, end_fold}
 use Rattle.vc_gen.proofs.Sound.{number_is}

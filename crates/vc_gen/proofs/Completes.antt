@@ -1,6 +1,6 @@
 -- The values by which a walk is found pass exactly its edges and calls.
-use Rattle.std.proofs.Common.{◌≡◌, ℕ, ◌+◌, zero, suc, Bool, true, false, not, ◌&&◌, ◌||◌, List, [], ◌∷◌, ◌++◌, map, length, arith, sym, ◌∙◌, ap, refl, subst, inl, inr, append-nil, append_assoc}
-use Rattle.std.specs.Prelude.{Option, None, Some, nat_eq, if◌then◌else◌, slice_get, ◌⊎◌}
+use Rattle.std.proofs.Common.{◌≡◌, ℕ, ◌+◌, zero, suc, Bool, true, false, List, [], ◌∷◌, ◌++◌, map, arith, sym, ◌∙◌, ap, refl, subst, inl, append-nil, append_assoc}
+use Rattle.std.specs.Prelude.{Option, None, Some, nat_eq, if◌then◌else◌, slice_get}
 use Rattle.std.specs.Option.{option_and_then}
 use Rattle.std.proofs.lemmas.List.{map-append}
 use Rattle.std.proofs.lemmas.Grind.{common_steps}
@@ -14,15 +14,15 @@ use Rattle.passive_form.specs.Local.{State, alone, walk, pass_all, cmds_of, is_t
 use Rattle.flat_prog.specs.Local.{Result, Request, edges_of}
 use Rattle.flat_prog.specs.Shape.{place_at, place_of}
 use Rattle.flat_prog.specs.Ordering.{is_in, Onward}
-use Rattle.vc_gen.specs.Fold.{Edge, Given, Seen, seen, seen_at, reached, entered, others, closed, through, fan, out_next, step, fold, places_on, edges_next, edges_out, live_edges, Dead, One, choice_count}
-use Rattle.vc_gen.specs.Passages.{Passage, passages, passages_seen, all_passages, on_requests, on_results, seen_values}
+use Rattle.vc_gen.specs.Fold.{Edge, Given, seen, seen_at, reached, entered, others, closed, through, fan, out_next, step, fold, places_on, edges_next, edges_out, live_edges, One, choice_count}
+use Rattle.vc_gen.specs.Passages.{passages, passages_seen, all_passages, on_requests, on_results, seen_values}
 use Rattle.vc_gen.proofs.Frames.{and_then_some}
 use Rattle.vc_gen.proofs.Edges.{one_reached, one_entered, one_dead, one_unreached, one_right, end_step}
 use Rattle.vc_gen.proofs.Used.{Used, pass_all_used}
 use Rattle.vc_gen.proofs.Sound.{number_is}
 use Rattle.vc_gen.proofs.Reach.{edges_off, dead_places}
-use Rattle.vc_gen.proofs.Complete.{never, dead_never, picks, pick_fan, length_picks, step_is, Each, Fine, Found, all_dull, Ending, some_pair, if_some, target_is, split_or}
-use Rattle.vc_gen.proofs.Traces.{requests_append, results_append, all_passes, Quiet, quiet_seen, Still, end_still, seen_off}
+use Rattle.vc_gen.proofs.Complete.{never, dead_never, picks, pick_fan, length_picks, step_is, Each, Fine, all_dull, Ending, some_pair, if_some, target_is, split_or}
+use Rattle.vc_gen.proofs.Traces.{requests_append, results_append, all_passes, quiet_seen, end_still, seen_off}
 
 abbrev some : Result → Option Result
 some r = Some r

@@ -1,16 +1,15 @@
 -- At most one of the waiting edges is live.
-use Rattle.std.proofs.Common.{◌≡◌, ℕ, ◌+◌, ◌<◌, zero, suc, Bool, true, false, not, ◌&&◌, ◌||◌, List, [], ◌∷◌, ◌++◌, length, arith, sym, ◌∙◌, ap, refl, subst, inl, inr}
-use Rattle.std.specs.Prelude.{Option, None, Some, nat_eq, if◌then◌else◌, slice_get, ◌⊎◌}
+use Rattle.std.proofs.Common.{◌≡◌, ℕ, suc, Bool, true, false, ◌&&◌, ◌||◌, List, [], ◌∷◌, ◌++◌, arith, sym, ◌∙◌, ap, refl, subst, inl, inr}
+use Rattle.std.specs.Prelude.{Option, None, Some, nat_eq, if◌then◌else◌, slice_get}
 use Rattle.std.proofs.lemmas.Bool.Decides.{nat_tests}
-use Rattle.std.proofs.lemmas.Grind.{common_steps}
 use Rattle.flat_prog.specs.declared.block.FlatNext.{FlatNext}
 use Rattle.flat_prog.specs.declared.block.FlatNext.TheVariants.{Goto, Return}
 use Rattle.flat_prog.specs.declared.block.FlatBlock.{FlatBlock}
 use Rattle.flat_prog.specs.declared.proc.FlatProc.{FlatProc}
 use Rattle.passive_form.specs.Limited.{Limited}
 use Rattle.hy_val.specs.declared.expr.Env.{Env}
-use Rattle.passive_form.specs.Local.{State, alone, is_target}
-use Rattle.vc_gen.specs.Fold.{Edge, Given, comes, reached, entered, others, through, fan, out_next, out_of, passed, step, fold, Dead, One, is_return, is_end, ends, end_env}
+use Rattle.passive_form.specs.Local.{State, is_target}
+use Rattle.vc_gen.specs.Fold.{Edge, Given, reached, entered, others, through, fan, out_next, out_of, passed, step, fold, Dead, One, is_return, is_end, ends, end_env}
 
 and_off : (b c : Bool) → c ≡ false → (b && c) ≡ false
 and_off true c h = h

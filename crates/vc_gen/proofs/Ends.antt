@@ -1,13 +1,13 @@
 -- The assignments that make the end true are the runs that end.
 use Rattle.std.specs.Option.{option_and_then}
-use Rattle.std.proofs.Common.{◌≡◌, ℕ, zero, suc, ◌+◌, ◌-◌, ◌<◌, Bool, true, false, not, ◌&&◌, List, [], ◌∷◌, ◌++◌, map, length, take, drop, arith, sym, ◌∙◌, ap, refl, subst, inl, inr, append-nil, append_assoc, length-append}
-use Rattle.std.specs.Prelude.{Option, None, Some, nat_lt, nat_eq, if◌then◌else◌, IsTrue, IsSome, ◌⊎◌, slice_get}
+use Rattle.std.proofs.Common.{◌≡◌, ℕ, zero, suc, ◌+◌, ◌-◌, ◌<◌, Bool, true, false, List, [], ◌∷◌, ◌++◌, map, length, take, drop, arith, sym, ◌∙◌, ap, refl, subst, inl, inr}
+use Rattle.std.specs.Prelude.{Option, Some, nat_lt, if◌then◌else◌, IsTrue, slice_get}
 use Rattle.std.proofs.lemmas.Bool.Decides.{nat_tests}
-use Rattle.hy_val.specs.Values.{at, is_on, zero_of}
+use Rattle.hy_val.specs.Values.{at, zero_of}
 use Rattle.hy_val.specs.declared.sort.Sort.{Sort}
 use Rattle.hy_val.specs.declared.value.Value.{Value}
 use Rattle.hy_val.specs.declared.expr.Env.{Env}
-use Rattle.hy_term.specs.Meaning.{values, value, fits, extended}
+use Rattle.hy_term.specs.Meaning.{values, fits, extended}
 use Rattle.hy_term.specs.Variables.{below, reads}
 use Rattle.hy_term.specs.declared.node.TermNode.{TermNode}
 use Rattle.hy_term.proofs.Numbering.{new_variables}
@@ -16,10 +16,10 @@ use Rattle.flat_prog.specs.declared.proc.FlatKind.TheVariants.{Source, Loop}
 use Rattle.flat_prog.specs.declared.block.FlatBlock.{FlatBlock}
 use Rattle.flat_prog.specs.declared.proc.FlatProc.{FlatProc}
 use Rattle.passive_form.specs.Limited.{Limited}
-use Rattle.passive_form.specs.Local.{State, alone, sorted_as, start, LocalEnds, AllTaken, walk, pass_all, cmds_of, is_target}
+use Rattle.passive_form.specs.Local.{State, alone, sorted_as, start, walk, pass_all, cmds_of, is_target}
 use Rattle.flat_prog.specs.Local.{Result, Request, outs_of, edges_of}
 use Rattle.flat_prog.specs.Shape.{exit_sort, place_at}
-use Rattle.vc_gen.specs.Fold.{Edge, Given, fold, seen, live_edges, ends, end_env, One, Dead}
+use Rattle.vc_gen.specs.Fold.{Given, fold, seen, live_edges, ends, end_env, One}
 use Rattle.flat_prog.specs.Ordering.{is_in, Onward}
 use Rattle.vc_gen.specs.Alike.{Alike}
 use Rattle.vc_gen.proofs.Alikes.{alike_ends, alike_end_env}
@@ -27,9 +27,9 @@ use Rattle.vc_gen.proofs.Edges.{one_ends, one_end_env}
 use Rattle.vc_gen.proofs.Frames.{choose_some, and_then_some}
 use Rattle.vc_gen.proofs.Traces.{traced}
 use Rattle.vc_gen.specs.Passages.{Passage, all_passages, on_requests, on_results, path_places, along}
-use Rattle.vc_gen.proofs.Complete.{Each, Ending, if_some, target_is}
+use Rattle.vc_gen.proofs.Complete.{Ending, if_some, target_is}
 use Rattle.vc_gen.proofs.Completes.{completed}
-use Rattle.vc_gen.specs.Standing.{Later, AreOf}
+use Rattle.vc_gen.specs.Standing.{AreOf}
 use Rattle.vc_gen.specs.declared.parts.Wait.{Wait}
 use Rattle.vc_gen.specs.declared.parts.EdgeTerm.{EdgeTerm}
 use Rattle.vc_gen.specs.declared.parts.SiteTerm.{SiteTerm}
@@ -38,7 +38,7 @@ use Rattle.vc_gen.specs.Emit.{site_value}
 use Rattle.vc_gen.specs.Exact.{request_of, result_of, SameCalls, asked, given_back}
 use Rattle.vc_gen.specs.Inputs.{items_at, sorts_of_blocks, givens_at, Shaped}
 use Rattle.vc_gen.specs.declared.parts.Actuals.{Actuals}
-use Rattle.vc_gen.specs.Instance.{all_at, edges_at, start_sorts, room, first_edge, Built, EndsFrom, EndsSound, Answers, EndsComplete, EndsPlaced}
+use Rattle.vc_gen.specs.Instance.{all_at, edges_at, start_sorts, room, first_edge, Built, EndsSound, EndsComplete, EndsPlaced}
 use Rattle.vc_gen.proofs.Growth.{map_later}
 use Rattle.vc_gen.proofs.Joining.{sorts_both}
 use Rattle.vc_gen.proofs.Shapes.{shaped_used, length_have}
@@ -172,7 +172,7 @@ pub record Started (q : FlatProc) (kind : FlatKind) (values : List Value) (begin
   pub values_are : values ≡ first ++ begin.values
   pub rest : begin ≡ alone begin.env begin.values [] []
 
-take_drop : {A : Type 0} (n : ℕ) (xs : List A) → xs ≡ take n xs ++ drop n xs
+pub take_drop : {A : Type 0} (n : ℕ) (xs : List A) → xs ≡ take n xs ++ drop n xs
 take_drop zero xs = refl
 take_drop (suc n) [] = refl
 take_drop (suc n) (x ∷ xs) = ap (λ r. x ∷ r) (take_drop n xs)

@@ -1,43 +1,39 @@
 -- Terms of edges and calls, block by block.
 use Rattle.vc_gen.specs.declared.parts.SiteTerm.{SiteTerm}
 use Rattle.vc_gen.specs.Emit.{site_place, site_value, SitesThere}
-use Rattle.std.proofs.Common.{◌≡◌, ℕ, zero, suc, ◌+◌, ◌<◌, Bool, true, false, not, ◌&&◌, ◌||◌, List, [], ◌∷◌, ◌++◌, map, length, take, arith, sym, ◌∙◌, ap, refl, subst, append-nil, append_assoc, length-append}
-use Rattle.std.specs.Prelude.{Option, None, Some, slice_get, slice_index_or, if◌then◌else◌}
-use Rattle.hy_val.specs.Exprs.{eval, eval_by}
+use Rattle.std.proofs.Common.{◌≡◌, ℕ, zero, suc, ◌+◌, ◌<◌, Bool, true, false, List, [], ◌∷◌, ◌++◌, map, length, take, arith, sym, ◌∙◌, ap, refl, subst, append_assoc}
+use Rattle.std.specs.Prelude.{Option, None, Some, slice_index_or, if◌then◌else◌}
+use Rattle.hy_val.specs.Exprs.{eval}
 use Rattle.hy_val.specs.Values.{at, is_on}
 use Rattle.hy_val.specs.declared.sort.Sort.{Sort}
 use Rattle.hy_val.specs.declared.value.Value.{Value}
 use Rattle.hy_val.specs.declared.expr.Env.{Env}
 use Rattle.hy_val.specs.declared.expr.Var.{Var}
 use Rattle.hy_val.specs.declared.expr.ExprNode.{ExprNode}
-use Rattle.hy_term.specs.TermSorts.{sort_at}
-use Rattle.hy_term.specs.Meaning.{values, value}
+use Rattle.hy_term.specs.Meaning.{value}
 use Rattle.hy_term.specs.declared.node.TermNode.{TermNode}
 use Rattle.flat_prog.specs.declared.block.FlatCmd.{FlatCmd}
 use Rattle.flat_prog.specs.declared.block.FlatCmd.TheVariants.{Assign, Havoc, Assume, Assert, Call}
 use Rattle.flat_prog.specs.declared.proc.FlatProc.{FlatProc}
 use Rattle.passive_form.specs.Limited.{Limited}
-use Rattle.passive_form.specs.Local.{State, alone, request, pass}
-use Rattle.flat_prog.specs.Local.{Result, Ended, Broken, Request}
-use Rattle.vc_gen.specs.Fold.{Edge}
+use Rattle.passive_form.specs.Local.{State, alone, pass}
+use Rattle.flat_prog.specs.Local.{Result, Request}
 use Rattle.vc_gen.specs.Passages.{Passage, passage_at, behind, passages, marked, targets_on, places_from, places_at}
-use Rattle.passive_form.specs.declared.Item.{Item}
-use Rattle.passive_form.specs.declared.Item.TheVariants.{Let, Zero, Free, Need, Check, Site}
-use Rattle.passive_form.specs.Versions.{Cur, look_at, env_of, Defined, hold, outs_from, after_from, taken_values, taken_results, made_calls, eval_all}
-use Rattle.passive_form.specs.Making.{over_versions, lets, frees, callee_outs, items_of, cur_after, next_after, items_all}
+use Rattle.passive_form.specs.Versions.{Cur, look_at, env_of, Defined, hold, taken_values, taken_results, made_calls, eval_all}
+use Rattle.passive_form.specs.Making.{over_versions, lets, frees, items_of, cur_after, next_after, items_all}
 use Rattle.passive_form.specs.Laws.{cmd_there, cmds_there, outcome}
 use Rattle.passive_form.proofs.Passing.{eval_is, defined_left, defined_right, pass_is, values_append, results_append}
 use Rattle.vc_gen.specs.declared.parts.EdgeTerm.{EdgeTerm}
 use Rattle.vc_gen.specs.declared.parts.Wait.{Wait}
 use Rattle.vc_gen.specs.Standing.{Later}
-use Rattle.vc_gen.specs.Items.{bool_sort, SiteMeans, on_end, site_by, sites_in}
+use Rattle.vc_gen.specs.Items.{bool_sort, SiteMeans, sites_in}
 use Rattle.vc_gen.specs.Instance.{edges_at}
-use Rattle.vc_gen.specs.Joins.{WaitOf, WaitsOf}
-use Rattle.vc_gen.specs.Exact.{edge_term, edge_terms, true_edges, EdgesThere, request_of, result_of, SameCall, SameCalls, true_sites}
+use Rattle.vc_gen.specs.Joins.{WaitsOf}
+use Rattle.vc_gen.specs.Exact.{edge_term, edge_terms, true_edges, EdgesThere, SameCalls, true_sites}
 use Rattle.vc_gen.proofs.Growth.{sort_later}
 use Rattle.vc_gen.proofs.Joining.{sites_append, and_first, and_second}
 use Rattle.vc_gen.proofs.Passes.{bit_later}
-use Rattle.vc_gen.proofs.Looking.{take_at, take_all}
+use Rattle.vc_gen.proofs.Looking.{take_at}
 use Rattle.vc_gen.proofs.Stepping.{on_is}
 
 -- ---- edges

@@ -1,7 +1,7 @@
 -- Where the items of a reached block fail, a run fails there.
-use Rattle.std.proofs.Common.{◌≡◌, ℕ, zero, suc, ◌+◌, Bool, true, false, not, ◌&&◌, ◌||◌, List, [], ◌∷◌, ◌++◌, map, length, sym, ◌∙◌, ap, refl, subst, inl, inr, append-nil}
-use Rattle.std.specs.Prelude.{Option, None, Some, if◌then◌else◌, slice_get, ◌⊎◌}
-use Rattle.hy_val.specs.Exprs.{eval, eval_by}
+use Rattle.std.proofs.Common.{◌≡◌, ℕ, ◌+◌, Bool, true, false, not, ◌&&◌, ◌||◌, List, [], ◌∷◌, ◌++◌, sym, ◌∙◌, ap, refl, subst, inl, inr}
+use Rattle.std.specs.Prelude.{None, Some, if◌then◌else◌, slice_get, ◌⊎◌}
+use Rattle.hy_val.specs.Exprs.{eval_by}
 use Rattle.hy_val.specs.Values.{is_on}
 use Rattle.hy_val.specs.declared.value.Value.{Value}
 use Rattle.hy_val.specs.declared.expr.Env.{Env}

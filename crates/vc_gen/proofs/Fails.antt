@@ -1,17 +1,17 @@
 -- From a block that is reached and fails to a run that fails.
-use Rattle.std.proofs.Common.{◌≡◌, ℕ, ◌+◌, Bool, true, false, List, [], ◌∷◌, ◌++◌, sym, ◌∙◌, ap, refl, subst, append-nil, append_assoc}
-use Rattle.std.specs.Prelude.{Option, None, Some, slice_get}
+use Rattle.std.proofs.Common.{◌≡◌, ℕ, List, [], ◌∷◌, ◌++◌, sym, ◌∙◌, ap, refl, append-nil}
+use Rattle.std.specs.Prelude.{Some, slice_get}
 use Rattle.hy_val.specs.declared.value.Value.{Value}
 use Rattle.hy_val.specs.declared.expr.Env.{Env}
 use Rattle.flat_prog.specs.declared.block.FlatCmd.{FlatCmd}
 use Rattle.flat_prog.specs.declared.block.FlatBlock.{FlatBlock}
 use Rattle.flat_prog.specs.declared.proc.FlatProc.{FlatProc}
 use Rattle.passive_form.specs.Limited.{Limited}
-use Rattle.passive_form.specs.Local.{State, alone, LocalFails, walk, pass_all, fail}
-use Rattle.flat_prog.specs.Local.{Request, Result, Broken, Track}
-use Rattle.vc_gen.proofs.Frames.{framed, pass_all_frame}
+use Rattle.passive_form.specs.Local.{State, alone, LocalFails, pass_all, fail}
+use Rattle.flat_prog.specs.Local.{Request, Result, Broken}
+use Rattle.vc_gen.proofs.Frames.{pass_all_frame}
 use Rattle.vc_gen.proofs.Sound.{same_state}
-use Rattle.vc_gen.proofs.Used.{Used, pass_all_used}
+use Rattle.vc_gen.proofs.Used.{pass_all_used}
 use Rattle.vc_gen.proofs.Reach.{Reaches}
 
 pub record Failing (flat : Limited) (q : FlatProc) (b : ℕ) (env : Env) (proc number : ℕ) : Type 0 where

@@ -1,10 +1,10 @@
 -- The run that fails passes exactly the live edges and the calls of the blocks that are reached; the last call is the one that fails, if it is one.
 use Rattle.vc_gen.proofs.Prefixes.{take_both, prefix_then}
 use Rattle.flat_prog.specs.Sites.{calls_of, calls_at}
-use Rattle.std.proofs.Common.{◌≡◌, ℕ, ◌+◌, zero, suc, Bool, true, false, not, ◌&&◌, ◌||◌, List, [], ◌∷◌, ◌++◌, map, length, arith, sym, ◌∙◌, ap, refl, subst, inl, inr, append-nil, append_assoc, length-append}
-use Rattle.std.specs.Prelude.{Option, None, Some, nat_eq, if◌then◌else◌, slice_get, ◌⊎◌, take}
+use Rattle.std.proofs.Common.{◌≡◌, ℕ, ◌+◌, suc, Bool, true, false, not, ◌&&◌, ◌||◌, List, [], ◌∷◌, ◌++◌, map, length, arith, sym, ◌∙◌, ap, refl, subst, inl, append-nil, append_assoc, length-append}
+use Rattle.std.specs.Prelude.{Option, None, Some, nat_eq, if◌then◌else◌, slice_get, take}
 use Rattle.std.specs.Option.{option_and_then}
-use Rattle.std.proofs.lemmas.List.{map-append, length-map}
+use Rattle.std.proofs.lemmas.List.{map-append}
 use Rattle.hy_val.specs.declared.value.Value.{Value}
 use Rattle.hy_val.specs.declared.expr.Env.{Env}
 use Rattle.flat_prog.specs.declared.block.FlatCmd.{FlatCmd}
@@ -18,16 +18,18 @@ use Rattle.passive_form.specs.Local.{State, alone, request, come_back, pass, pas
 use Rattle.flat_prog.specs.Local.{Result, Ended, Broken, Request, edges_of}
 use Rattle.hy_val.specs.Stores.{holds}
 use Rattle.flat_prog.specs.Shape.{place_of}
-use Rattle.vc_gen.specs.Fold.{Edge, Given, Seen, seen, seen_at, reached, entered, others, closed, through, fan, out_next, out_of, passed, step, fold, edges_next, edges_out, live_edges, Dead, One}
-use Rattle.vc_gen.specs.Breaking.{bad_call, breaks_at, test_some, breaks, breaks_seen, any_breaks}
-use Rattle.vc_gen.specs.Passages.{Passage, next_result, passage_at, behind, passages, passages_seen, all_passages, on_requests, on_results, places_from, places_at, places_seen, all_places, block_places, path_places, seen_values, along}
+use Rattle.vc_gen.specs.Fold.{Edge, Given, seen, seen_at, reached, entered, others, closed, through, fan, out_next, out_of, passed, step, edges_next, edges_out, live_edges, Dead, One}
+use Rattle.vc_gen.specs.Breaking.{bad_call, breaks_at, breaks, any_breaks}
+use Rattle.vc_gen.specs.Passages.{Passage, next_result, passage_at, behind, passages, passages_seen, all_passages, on_requests, on_results, places_from, places_at, all_places, block_places, path_places, seen_values, along}
 use Rattle.vc_gen.proofs.Frames.{and_then_some, pass_all_frame}
+use Rattle.vc_gen.specs.Taken.{taken_at, taken_behind, values_on, all_values}
+use Rattle.vc_gen.proofs.Takes.{all_takes, values_then, closed_takes, none_at, past_takes, dead_takes}
 use Rattle.vc_gen.proofs.Edges.{dead_append, dead_out, dead_reached, dead_step, one_reached, one_entered, one_dead, one_unreached, one_right, end_step}
-use Rattle.vc_gen.proofs.Used.{Used, pass_all_used}
-use Rattle.vc_gen.proofs.Reach.{Reaches, stays, goes_on, edges_off, Taken, taken}
+use Rattle.vc_gen.proofs.Used.{pass_all_used}
+use Rattle.vc_gen.proofs.Reach.{Reaches, stays, goes_on, edges_off, taken}
 use Rattle.vc_gen.proofs.Sound.{closed_is, number_is, same_state}
-use Rattle.vc_gen.proofs.Breaches.{break_place, BreakPlace}
-use Rattle.vc_gen.proofs.Traces.{requests_append, results_append, Passes, all_passes, Quiet, quiet_both, quiet_cmds, quiet_seen, Still, still_next, end_still, no_places, quiet_places, passed_places, along_none, along_here, along_past, seen_off}
+use Rattle.vc_gen.proofs.Breaches.{break_place}
+use Rattle.vc_gen.proofs.Traces.{requests_append, results_append, all_passes, Quiet, quiet_cmds, quiet_seen, Still, still_next, no_places, quiet_places, passed_places, along_none, along_here, along_past, seen_off}
 
 abbrev some : Result → Option Result
 some r = Some r
@@ -179,7 +181,7 @@ count_on n i (p ∷ ps) = by p.on (count_on n (i + 1) ps)
     by false h = h
 
 -- a run that fails, with its edges and calls
-pub record Failed (flat : Limited) (q : FlatProc) (b : ℕ) (env : Env) (edges : List (ℕ × ℕ)) (ps : List Passage) (sites : List (ℕ × ℕ)) (vals : List Value) (by : List ℕ → List Value) : Type 0 where
+pub record Failed (flat : Limited) (q : FlatProc) (b : ℕ) (env : Env) (edges : List (ℕ × ℕ)) (ps : List Passage) (sites : List (ℕ × ℕ)) (vals came : List Value) (by : List ℕ → List Value) : Type 0 where
   pub c : ℕ
   pub at_env : Env
   pub front : List (ℕ × ℕ)
@@ -205,12 +207,13 @@ pub record Failed (flat : Limited) (q : FlatProc) (b : ℕ) (env : Env) (edges :
   pub results_are : map some (way.results ++ (results ++ more)) ≡ on_results ps
   pub places_are : take (length (way.calls ++ (made ++ own))) (path_places q (b ∷ way.path)) ≡ sites
   pub takes : way.values ++ values ≡ take (length (way.values ++ values)) vals
+  pub came_are : way.values ++ values ≡ came
   pub along_are : vals ≡ by (b ∷ way.path)
 
 -- it fails in the first block
-failed_here : (flat : Limited) (q : FlatProc) (b : ℕ) (env : Env) (block : FlatBlock) (vs : List Value) (rs : List Result) (rest : List Passage) (none : List (ℕ × ℕ)) (left : List Value) (by : List ℕ → List Value) → slice_get q.blocks b ≡ Some block → breaks flat q block.cmds (alone env vs rs []) ≡ true → Quiet rest → none ≡ [] → vs ++ left ≡ by (b ∷ []) →
-    Failed flat q b env [] (passages flat q block.cmds true (alone env vs rs []) ++ rest) (places_at b 0 (passages flat q block.cmds true (alone env vs rs [])) ++ none) (vs ++ left) by
-failed_here flat q b env block vs rs rest none left by at h quiet none_is one =
+failed_here : (flat : Limited) (q : FlatProc) (b : ℕ) (env : Env) (block : FlatBlock) (vs : List Value) (rs : List Result) (rest : List Passage) (none : List (ℕ × ℕ)) (left late : List Value) (by : List ℕ → List Value) → slice_get q.blocks b ≡ Some block → breaks flat q block.cmds (alone env vs rs []) ≡ true → Quiet rest → none ≡ [] → late ≡ [] → vs ++ left ≡ by (b ∷ []) →
+    Failed flat q b env [] (passages flat q block.cmds true (alone env vs rs []) ++ rest) (places_at b 0 (passages flat q block.cmds true (alone env vs rs [])) ++ none) (vs ++ left) (values_on flat q block.cmds (alone env vs rs []) ++ late) by
+failed_here flat q b env block vs rs rest none left late by at h quiet none_is late_is one =
     let s : State = alone env vs rs [] in
     let r = break_place flat q block.cmds s h in
     let u = pass_all_used flat q r.before s r.over r.passes in
@@ -258,6 +261,12 @@ failed_here flat q b env block vs rs rest none left by at h quiet none_is one =
           ∙ ap (take (length (on_requests (passages flat q block.cmds true s)))) (append-nil (block_places q b) ∙ ap (λ o. places_from b 0 (length (calls_at o))) at)
           ∙ sym (prefix_on flat q b 0 block.cmds true s) ∙ sym (append-nil (places_at b 0 (passages flat q block.cmds true s))) ∙ ap (λ x. places_at b 0 (passages flat q block.cmds true s) ++ x) (sym none_is);
       takes = prefix_then u.values [] (r.over.values ++ left) u.values (sym (append-nil u.values)) refl ∙ ap (take (length u.values)) (sym (ap (λ x. x ++ left) u.values_are ∙ append_assoc u.values r.over.values left));
+      came_are =
+          let xs = values_on flat q r.before s in
+          sym (
+          ap (λ x. values_on flat q block.cmds s ++ x) late_is ∙ append-nil (values_on flat q block.cmds s) ∙ ap (λ cs. values_on flat q cs s) r.splits ∙ values_then flat q r.before (r.at ∷ r.after) s r.over r.passes
+          ∙ ap (λ o. xs ++ (taken_at r.at r.over ++ taken_behind (values_on flat q r.after) o)) (stop_at flat q r.at r.over r.breaks_is) ∙ ap (λ x. xs ++ (x ++ [])) (none_at r.at r.over r.over r.breaks_is)
+          ∙ append-nil xs ∙ cancel_right xs u.values r.over.values (sym (all_takes flat q r.before s r.over r.passes) ∙ u.values_are));
       along_are = one;
       results_are = sym (
           results_append (passages flat q block.cmds true s) rest ∙ ap (λ x. on_results (passages flat q block.cmds true s) ++ x) quiet.1 ∙ append-nil (on_results (passages flat q block.cmds true s))
@@ -266,11 +275,11 @@ failed_here flat q b env block vs rs rest none left by at h quiet none_is one =
     }
 
 -- or behind an edge
-failed_goes : (flat : Limited) (q : FlatProc) (b : ℕ) (block : FlatBlock) (env : Env) (vs : List Value) (rs : List Result) (s : State) (place t : ℕ) (edges : List (ℕ × ℕ)) (rest : List Passage) (sites : List (ℕ × ℕ)) (left : List Value) (by own : List ℕ → List Value) →
+failed_goes : (flat : Limited) (q : FlatProc) (b : ℕ) (block : FlatBlock) (env : Env) (vs : List Value) (rs : List Result) (s : State) (place t : ℕ) (edges : List (ℕ × ℕ)) (rest : List Passage) (sites : List (ℕ × ℕ)) (left late : List Value) (by own : List ℕ → List Value) →
     slice_get q.blocks b ≡ Some block → place_of block.next place ≡ Some t → closed (pass_all flat q block.cmds (alone env vs rs [])) ≡ Some s →
-    Failed flat q t s.env edges rest sites left by → ((path : List ℕ) → own (b ∷ path) ≡ vs ++ by path) →
-    Failed flat q b env ((b, place) ∷ edges) (passages flat q block.cmds true (alone env vs rs []) ++ rest) (places_at b 0 (passages flat q block.cmds true (alone env vs rs [])) ++ sites) (vs ++ left) own
-failed_goes flat q b block env vs rs s place t edges rest sites left by own at edge h m step_on =
+    Failed flat q t s.env edges rest sites left late by → ((path : List ℕ) → own (b ∷ path) ≡ vs ++ by path) →
+    Failed flat q b env ((b, place) ∷ edges) (passages flat q block.cmds true (alone env vs rs []) ++ rest) (places_at b 0 (passages flat q block.cmds true (alone env vs rs [])) ++ sites) (vs ++ left) (values_on flat q block.cmds (alone env vs rs []) ++ late) own
+failed_goes flat q b block env vs rs s place t edges rest sites left late by own at edge h m step_on =
     let r = closed_is (pass_all flat q block.cmds (alone env vs rs [])) s h in
     let p = all_passes flat q block.cmds (alone env vs rs []) s r.0 in
     let ps = passages flat q block.cmds true (alone env vs rs []) in
@@ -311,11 +320,12 @@ failed_goes flat q b block env vs rs s place t edges rest sites left by own at e
           ∙ take_both (length s.calls) (length asks) (block_places q b) rest_places many
           ∙ ap (λ x. x ++ take (length asks) rest_places) passed ∙ ap (λ x. places_at b 0 ps ++ x) m.places_are;
       takes = prefix_then vs (m.way.values ++ m.values) left ((vs ++ m.way.values) ++ m.values) (append_assoc vs m.way.values m.values) m.takes;
+      came_are = append_assoc vs m.way.values m.values ∙ ap (λ x. vs ++ x) m.came_are ∙ ap (λ x. x ++ late) (closed_takes flat q block.cmds env vs rs s h);
       along_are = ap (λ x. vs ++ x) m.along_are ∙ sym (step_on (t ∷ m.way.path));
     }
 
 abbrev Rest : Limited → FlatProc → Env → List Given → Type 0
-Rest flat q d gs = (es : List Edge) (b : ℕ) (env : Env) → One es (Some b) env → any_breaks flat q (seen flat q d gs es) ≡ true → Failed flat q b env (live_edges flat q d gs es) (all_passages flat q (seen flat q d gs es)) (all_places flat q (seen flat q d gs es)) (seen_values (seen flat q d gs es)) (along gs)
+Rest flat q d gs = (es : List Edge) (b : ℕ) (env : Env) → One es (Some b) env → any_breaks flat q (seen flat q d gs es) ≡ true → Failed flat q b env (live_edges flat q d gs es) (all_passages flat q (seen flat q d gs es)) (all_places flat q (seen flat q d gs es)) (seen_values (seen flat q d gs es)) (all_values flat q (seen flat q d gs es)) (along gs)
 
 by_next : (flat : Limited) (q : FlatProc) (d : Env) (gs : List Given) → Rest flat q d gs → (g : Given) (before : List Edge) (env : Env) (s : State) (block : FlatBlock) (next : FlatNext) →
     Dead before → slice_get q.blocks g.number ≡ Some block → block.next ≡ next → closed (pass_all flat q block.cmds (alone env g.values g.results [])) ≡ Some s →
@@ -323,7 +333,7 @@ by_next : (flat : Limited) (q : FlatProc) (d : Env) (gs : List Given) → Rest f
     Failed flat q g.number env (edges_next g.number next true s.env g.choices ++ live_edges flat q d gs (before ++ out_next next true s.env g.choices))
     (passages flat q block.cmds true (alone env g.values g.results []) ++ all_passages flat q (seen flat q d gs (before ++ out_next next true s.env g.choices)))
     (places_at g.number 0 (passages flat q block.cmds true (alone env g.values g.results [])) ++ all_places flat q (seen flat q d gs (before ++ out_next next true s.env g.choices)))
-    (g.values ++ seen_values (seen flat q d gs (before ++ out_next next true s.env g.choices))) (along (g ∷ gs))
+    (g.values ++ seen_values (seen flat q d gs (before ++ out_next next true s.env g.choices))) (values_on flat q block.cmds (alone env g.values g.results []) ++ all_values flat q (seen flat q d gs (before ++ out_next next true s.env g.choices))) (along (g ∷ gs))
 by_next flat q d gs rest g before env s block Return k at next h e =
     let es = before ++ out_next Return true s.env g.choices in
     absurd (clash (any_breaks flat q (seen flat q d gs es)) (end_whole flat q d gs es s.env (one_right before (out_next Return true s.env g.choices) None s.env k (inl (refl, refl, refl, tt)))) e)
@@ -336,9 +346,10 @@ by_next flat q d gs rest g before env s block (Goto (u ∷ ts)) k at next h e =
     let ps = passages flat q block.cmds true (alone env g.values g.results []) ++ all_passages flat q (seen flat q d gs es) in
     let pl = places_at g.number 0 (passages flat q block.cmds true (alone env g.values g.results [])) ++ all_places flat q (seen flat q d gs es) in
     let vl = g.values ++ seen_values (seen flat q d gs es) in
-    subst (λ (x : List (ℕ × ℕ)). Failed flat q g.number env (x ++ live_edges flat q d gs es) ps pl vl (along (g ∷ gs))) (sym f.only)
-    (subst (λ (p : ℕ). Failed flat q g.number env ((g.number, p) ∷ live_edges flat q d gs es) ps pl vl (along (g ∷ gs))) (omega arith)
-    (failed_goes flat q g.number block env g.values g.results s f.place f.to (live_edges flat q d gs es) (all_passages flat q (seen flat q d gs es)) (all_places flat q (seen flat q d gs es)) (seen_values (seen flat q d gs es)) (along gs) (along (g ∷ gs)) at (ap (λ x. place_of x f.place) next ∙ f.at) h more (along_here g gs)))
+    let cl = values_on flat q block.cmds (alone env g.values g.results []) ++ all_values flat q (seen flat q d gs es) in
+    subst (λ (x : List (ℕ × ℕ)). Failed flat q g.number env (x ++ live_edges flat q d gs es) ps pl vl cl (along (g ∷ gs))) (sym f.only)
+    (subst (λ (p : ℕ). Failed flat q g.number env ((g.number, p) ∷ live_edges flat q d gs es) ps pl vl cl (along (g ∷ gs))) (omega arith)
+    (failed_goes flat q g.number block env g.values g.results s f.place f.to (live_edges flat q d gs es) (all_passages flat q (seen flat q d gs es)) (all_places flat q (seen flat q d gs es)) (seen_values (seen flat q d gs es)) (all_values flat q (seen flat q d gs es)) (along gs) (along (g ∷ gs)) at (ap (λ x. place_of x f.place) next ∙ f.at) h more (along_here g gs)))
 
 -- the block g is reached; it fails, or passes
 by_state : (flat : Limited) (q : FlatProc) (d : Env) (gs : List Given) → Rest flat q d gs → (g : Given) (before : List Edge) (env : Env) (o : Option State) (b : Option FlatBlock) (x : Bool) →
@@ -347,7 +358,7 @@ by_state : (flat : Limited) (q : FlatProc) (d : Env) (gs : List Given) → Rest 
     Failed flat q g.number env (edges_out g.number o true b g.choices ++ live_edges flat q d gs (before ++ passed o true b d g.choices))
     (passages flat q (cmds_of b) true (alone env g.values g.results []) ++ all_passages flat q (seen flat q d gs (before ++ passed o true b d g.choices)))
     (places_at g.number 0 (passages flat q (cmds_of b) true (alone env g.values g.results [])) ++ all_places flat q (seen flat q d gs (before ++ passed o true b d g.choices)))
-    (g.values ++ seen_values (seen flat q d gs (before ++ passed o true b d g.choices))) (along (g ∷ gs))
+    (g.values ++ seen_values (seen flat q d gs (before ++ passed o true b d g.choices))) (values_on flat q (cmds_of b) (alone env g.values g.results []) ++ all_values flat q (seen flat q d gs (before ++ passed o true b d g.choices))) (along (g ∷ gs))
 by_state flat q d gs rest g before env o None true k at h y e = let z : false ≡ true = y in cc
 by_state flat q d gs rest g before env None (Some block) true k at h y e =
     let es = before ++ out_of (Some block) false d g.choices in
@@ -355,8 +366,10 @@ by_state flat q d gs rest g before env None (Some block) true k at h y e =
     let ps = passages flat q block.cmds true (alone env g.values g.results []) ++ all_passages flat q (seen flat q d gs es) in
     let pl = places_at g.number 0 (passages flat q block.cmds true (alone env g.values g.results [])) ++ all_places flat q (seen flat q d gs es) in
     let vl = g.values ++ seen_values (seen flat q d gs es) in
-    subst (λ (z : List (ℕ × ℕ)). Failed flat q g.number env z ps pl vl (along (g ∷ gs))) (sym still.0)
-    (failed_here flat q g.number env block g.values g.results (all_passages flat q (seen flat q d gs es)) (all_places flat q (seen flat q d gs es)) (seen_values (seen flat q d gs es)) (along (g ∷ gs)) at y still.1 still.2
+    let cl = values_on flat q block.cmds (alone env g.values g.results []) ++ all_values flat q (seen flat q d gs es) in
+    subst (λ (z : List (ℕ × ℕ)). Failed flat q g.number env z ps pl vl cl (along (g ∷ gs))) (sym still.0)
+    (failed_here flat q g.number env block g.values g.results (all_passages flat q (seen flat q d gs es)) (all_places flat q (seen flat q d gs es)) (seen_values (seen flat q d gs es)) (all_values flat q (seen flat q d gs es)) (along (g ∷ gs)) at y still.1 still.2
+    (dead_takes flat q d gs es (dead_append before (out_of (Some block) false d g.choices) k (dead_out (Some block) d g.choices)))
     (ap (λ x. g.values ++ x) (still.3 ∙ sym (along_none gs)) ∙ sym (along_here g gs [])))
 by_state flat q d gs rest g before env (Some s) (Some block) true k at h y e =
     let r = break_place flat q block.cmds (alone env g.values g.results []) y in
@@ -373,7 +386,7 @@ by_state flat q d gs rest g before env (Some s) (Some block) false k at h y e =
     by_next flat q d gs rest g before env s block block.next k at refl (sym (ap (λ x. closed (pass_all flat q (cmds_of x) (alone env g.values g.results []))) at) ∙ h) e
 
 here : (flat : Limited) (q : FlatProc) (d : Env) (gs : List Given) → Rest flat q d gs → (g : Given) (es : List Edge) (env : Env) → One es (Some g.number) env →
-    any_breaks flat q (seen flat q d (g ∷ gs) es) ≡ true → Failed flat q g.number env (live_edges flat q d (g ∷ gs) es) (all_passages flat q (seen flat q d (g ∷ gs) es)) (all_places flat q (seen flat q d (g ∷ gs) es)) (seen_values (seen flat q d (g ∷ gs) es)) (along (g ∷ gs))
+    any_breaks flat q (seen flat q d (g ∷ gs) es) ≡ true → Failed flat q g.number env (live_edges flat q d (g ∷ gs) es) (all_passages flat q (seen flat q d (g ∷ gs) es)) (all_places flat q (seen flat q d (g ∷ gs) es)) (seen_values (seen flat q d (g ∷ gs) es)) (all_values flat q (seen flat q d (g ∷ gs) es)) (along (g ∷ gs))
 here flat q d gs rest g es env one h =
     let before = others g.number es in
     let block = slice_get q.blocks g.number in
@@ -383,16 +396,17 @@ here flat q d gs rest g es env one h =
     (edges_out g.number (through flat q g v) r block g.choices ++ live_edges flat q d gs (before ++ passed (through flat q g v) r block d g.choices))
     (passages flat q (cmds_of block) r (alone v g.values g.results []) ++ all_passages flat q (seen flat q d gs (before ++ passed (through flat q g v) r block d g.choices)))
     (places_at g.number 0 (passages flat q (cmds_of block) r (alone v g.values g.results [])) ++ all_places flat q (seen flat q d gs (before ++ passed (through flat q g v) r block d g.choices)))
-    (if r then g.values ++ seen_values (seen flat q d gs (before ++ passed (through flat q g v) r block d g.choices)) else seen_values (seen flat q d gs (before ++ passed (through flat q g v) r block d g.choices))) (along (g ∷ gs)) in
+    (if r then g.values ++ seen_values (seen flat q d gs (before ++ passed (through flat q g v) r block d g.choices)) else seen_values (seen flat q d gs (before ++ passed (through flat q g v) r block d g.choices)))
+    ((if r then values_on flat q (cmds_of block) (alone v g.values g.results []) else []) ++ all_values flat q (seen flat q d gs (before ++ passed (through flat q g v) r block d g.choices))) (along (g ∷ gs)) in
     subst (λ r. P (entered g.number d es) r) (sym (one_reached g.number es env one))
     (subst (λ v. P v true) (sym (one_entered g.number d es env one))
     (λ e. by_state flat q d gs rest g before env (through flat q g env) block (breaks flat q (cmds_of block) (alone env g.values g.results [])) (one_dead g.number es env one) refl refl refl e)) h
 
 by_number : (flat : Limited) (q : FlatProc) (d : Env) (gs : List Given) → Rest flat q d gs → (g : Given) (es : List Edge) (b : ℕ) (env : Env) (x : Bool) → nat_eq b g.number ≡ x → One es (Some b) env →
-    any_breaks flat q (seen flat q d (g ∷ gs) es) ≡ true → Failed flat q b env (live_edges flat q d (g ∷ gs) es) (all_passages flat q (seen flat q d (g ∷ gs) es)) (all_places flat q (seen flat q d (g ∷ gs) es)) (seen_values (seen flat q d (g ∷ gs) es)) (along (g ∷ gs))
+    any_breaks flat q (seen flat q d (g ∷ gs) es) ≡ true → Failed flat q b env (live_edges flat q d (g ∷ gs) es) (all_passages flat q (seen flat q d (g ∷ gs) es)) (all_places flat q (seen flat q d (g ∷ gs) es)) (seen_values (seen flat q d (g ∷ gs) es)) (all_values flat q (seen flat q d (g ∷ gs) es)) (along (g ∷ gs))
 by_number flat q d gs rest g es b env true f one h =
     let same = number_is b g.number f in
-    subst (λ x. Failed flat q x env (live_edges flat q d (g ∷ gs) es) (all_passages flat q (seen flat q d (g ∷ gs) es)) (all_places flat q (seen flat q d (g ∷ gs) es)) (seen_values (seen flat q d (g ∷ gs) es)) (along (g ∷ gs))) same
+    subst (λ x. Failed flat q x env (live_edges flat q d (g ∷ gs) es) (all_passages flat q (seen flat q d (g ∷ gs) es)) (all_places flat q (seen flat q d (g ∷ gs) es)) (seen_values (seen flat q d (g ∷ gs) es)) (all_values flat q (seen flat q d (g ∷ gs) es)) (along (g ∷ gs))) same
     (here flat q d gs rest g es env (subst (λ x. One es (Some x) env) (sym same) one) h)
 by_number flat q d gs rest g es b env false f one h =
     let fs = step flat q d g es in
@@ -430,6 +444,7 @@ by_number flat q d gs rest g es b env false f one h =
       results_are = m.results_are ∙ ap (λ r. r ++ on_results more) (sym quiet.1) ∙ sym (results_append ps more);
       places_are = m.places_are ∙ ap (λ r. r ++ all_places flat q (seen flat q d gs fs)) (sym (quiet_places flat q d g es off));
       takes = m.takes ∙ ap (take (length (m.way.values ++ m.values))) (sym (seen_off flat q d g gs es off));
+      came_are = m.came_are ∙ sym (past_takes flat q d g gs es off);
       along_are = seen_off flat q d g gs es off ∙ m.along_are ∙ sym (along_past g gs b m.way.path f);
     }
 
@@ -437,10 +452,10 @@ pub failed : (flat : Limited) (q : FlatProc) (d : Env) (gs : List Given) → Res
 failed flat q d [] es b env one h = cc
 failed flat q d (g ∷ gs) es b env one h = by_number flat q d gs (failed flat q d gs) g es b env (nat_eq b g.number) refl one h
 
-pub failed_run : (flat : Limited) (q : FlatProc) (b : ℕ) (env : Env) (edges : List (ℕ × ℕ)) (ps : List Passage) (sites : List (ℕ × ℕ)) (vals : List Value) (by : List ℕ → List Value) → (m : Failed flat q b env edges ps sites vals by) →
+pub failed_run : (flat : Limited) (q : FlatProc) (b : ℕ) (env : Env) (edges : List (ℕ × ℕ)) (ps : List Passage) (sites : List (ℕ × ℕ)) (vals came : List Value) (by : List ℕ → List Value) → (m : Failed flat q b env edges ps sites vals came by) →
     LocalFails flat q (record { proc = 0; path = b ∷ m.way.path; places = m.way.places; values = m.way.values ++ m.values }) (alone env (m.way.values ++ m.values) [] []) (m.way.results ++ (m.results ++ m.more))
     (m.way.calls ++ (m.made ++ m.own)) m.proc m.number
-failed_run flat q b env edges ps sites vals by m =
+failed_run flat q b env edges ps sites vals came by m =
     let w = m.way in
     record {
       last = m.block;

@@ -1,27 +1,25 @@
 -- The edges of a goto, one by one.
 use Rattle.flat_prog.specs.Sites.{numbers_from}
 use Rattle.vc_gen.proofs.Numbers.{numbers_then}
-use Rattle.std.proofs.Common.{◌≡◌, ℕ, zero, suc, ◌+◌, ◌-◌, ◌<◌, ◌≤◌, Bool, true, false, not, ◌&&◌, List, [], ◌∷◌, ◌++◌, map, length, take, drop, replicate, arith, sym, ◌∙◌, ap, refl, subst, append-nil, append_assoc, length-append}
-use Rattle.std.specs.Prelude.{Option, None, Some, slice_get, slice_index, slice_index_or, IsTrue, IsSome}
+use Rattle.std.proofs.Common.{◌≡◌, ℕ, zero, suc, ◌+◌, ◌-◌, ◌<◌, Bool, true, not, ◌&&◌, List, [], ◌∷◌, ◌++◌, length, drop, replicate, arith, sym, ◌∙◌, ap, refl, append-nil, append_assoc}
+use Rattle.std.specs.Prelude.{Option, Some, slice_index, IsTrue, IsSome}
 use Rattle.std.proofs.lemmas.List.{map-append}
-use Rattle.hy_val.specs.Values.{at, is_on}
+use Rattle.hy_val.specs.Values.{is_on}
 use Rattle.hy_val.specs.declared.sort.Sort.{Sort}
 use Rattle.hy_val.specs.declared.value.Value.{Value}
-use Rattle.hy_val.specs.declared.expr.Env.{Env}
 use Rattle.hy_term.specs.TermSorts.{sorts, sort_at}
-use Rattle.hy_term.specs.Meaning.{values, value, fits}
+use Rattle.hy_term.specs.Meaning.{value}
 use Rattle.hy_term.specs.Variables.{below, reads}
 use Rattle.hy_term.specs.declared.node.TermNode.{TermNode}
 use Rattle.passive_form.specs.Local.{sorted_as}
 use Rattle.vc_gen.specs.Fold.{Edge, fan}
 use Rattle.vc_gen.specs.declared.parts.Draft.{Draft}
 use Rattle.vc_gen.specs.declared.parts.Wait.{Wait}
-use Rattle.vc_gen.specs.Standing.{Later, Plain, AreOf, variables_in}
+use Rattle.vc_gen.specs.Standing.{Later, variables_in}
 use Rattle.vc_gen.specs.Items.{bool_sort}
 use Rattle.vc_gen.specs.Instance.{all_at, edge_at, edges_at}
 use Rattle.vc_gen.specs.Joins.{WaitThere, WaitOf, WaitsOf}
-use Rattle.vc_gen.specs.Edges.{Framed, Parted, WaitsThere, ListThere, env_at, picked, FanSoFar, Fanned}
-use Rattle.vc_gen.proofs.Looking.{drop_at}
+use Rattle.vc_gen.specs.Edges.{Parted, WaitsThere, ListThere, env_at, picked, FanSoFar, Fanned}
 use Rattle.vc_gen.proofs.Growth.{later_same, later_then, sort_later, are_later, map_later}
 use Rattle.vc_gen.proofs.Joining.{fits_before, reads_append, length_reads, sorts_left, sorts_right}
 use Rattle.vc_gen.proofs.Passes.{bit_later}

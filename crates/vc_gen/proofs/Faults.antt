@@ -1,13 +1,12 @@
 -- The assignments that make the fail bit true are the runs that fail.
 use Rattle.vc_gen.proofs.Prefixes.{prefix_then}
-use Rattle.std.proofs.Common.{◌≡◌, ℕ, zero, suc, ◌+◌, ◌<◌, Bool, true, false, ◌&&◌, List, [], ◌∷◌, ◌++◌, map, length, arith, sym, ◌∙◌, ap, refl, subst, inl, inr}
-use Rattle.std.specs.Prelude.{Option, None, Some, slice_get, if◌then◌else◌, IsTrue, IsSome, take}
+use Rattle.std.proofs.Common.{◌≡◌, ℕ, ◌+◌, true, List, [], ◌∷◌, ◌++◌, map, length, sym, ◌∙◌, ap, refl, subst}
+use Rattle.std.specs.Prelude.{Option, Some, slice_get, IsTrue, take}
 use Rattle.std.specs.Option.{option_and_then}
-use Rattle.hy_val.specs.Values.{at, is_on}
+use Rattle.hy_val.specs.Values.{at}
 use Rattle.hy_val.specs.declared.sort.Sort.{Sort}
-use Rattle.hy_val.specs.declared.value.Value.{Value}
 use Rattle.hy_val.specs.declared.expr.Env.{Env}
-use Rattle.hy_term.specs.Meaning.{values, value, fits, extended}
+use Rattle.hy_term.specs.Meaning.{fits, extended}
 use Rattle.hy_term.specs.Variables.{below, reads}
 use Rattle.hy_term.specs.declared.node.TermNode.{TermNode}
 use Rattle.hy_term.proofs.Numbering.{new_variables}
@@ -15,31 +14,31 @@ use Rattle.flat_prog.specs.declared.block.FlatBlock.{FlatBlock}
 use Rattle.flat_prog.specs.declared.proc.FlatProc.{FlatProc}
 use Rattle.passive_form.specs.Limited.{Limited}
 use Rattle.flat_prog.specs.Local.{Track, Result, Request, Broken}
-use Rattle.passive_form.specs.Local.{State, alone, sorted_as, start, walk, pass_all, cmds_of, is_target, LocalFails}
+use Rattle.passive_form.specs.Local.{State, alone, sorted_as, start, walk, pass_all, cmds_of, is_target}
 use Rattle.flat_prog.specs.Shape.{place_at}
-use Rattle.vc_gen.specs.Fold.{Edge, Given, Seen, seen, live_edges, fold, ends, last_of}
+use Rattle.vc_gen.specs.Fold.{Given, seen, live_edges, fold, ends, last_of}
 use Rattle.flat_prog.specs.Ordering.{is_in, Onward}
-use Rattle.vc_gen.specs.Breaking.{breaks, breaks_seen, any_breaks}
+use Rattle.vc_gen.specs.Breaking.{any_breaks}
 use Rattle.vc_gen.proofs.Frames.{and_then_some}
-use Rattle.vc_gen.proofs.Complete.{Each, some_pair, if_some}
+use Rattle.vc_gen.proofs.Complete.{some_pair, if_some}
 use Rattle.vc_gen.proofs.Arrives.{Last, arrives}
-use Rattle.vc_gen.proofs.Failures.{Failed, failed, failed_run}
+use Rattle.vc_gen.proofs.Failures.{failed, failed_run}
 use Rattle.vc_gen.specs.BlockPlans.{recast}
 use Rattle.vc_gen.proofs.Recasting.{fails_again}
 use Rattle.vc_gen.proofs.Both.{never_both}
 use Rattle.vc_gen.proofs.Alikes.{alike_ends}
-use Rattle.vc_gen.specs.Instance.{NeverBoth, edges_at, all_at, start_sorts, room, first_edge, Built, FailsFrom, FailsSound, FailAnswers, FailsComplete, FailsPlaced}
-use Rattle.vc_gen.specs.Passages.{Passage, all_passages, on_requests, blame, blamed, all_places, path_places, along, seen_values}
-use Rattle.passive_form.specs.Making.{block_or}
+use Rattle.vc_gen.specs.Instance.{NeverBoth, edges_at, all_at, start_sorts, room, first_edge, Built, FailsSound, FailsComplete, FailsPlaced}
+use Rattle.vc_gen.specs.Passages.{all_passages, on_requests, blame, blamed, all_places, path_places, along, seen_values}
+use Rattle.vc_gen.specs.Taken.{all_values}
 use Rattle.vc_gen.specs.declared.parts.Wait.{Wait}
 use Rattle.vc_gen.specs.declared.parts.EdgeTerm.{EdgeTerm}
 use Rattle.vc_gen.specs.declared.parts.SiteTerm.{SiteTerm}
 use Rattle.vc_gen.specs.declared.parts.Actuals.{Actuals}
-use Rattle.vc_gen.specs.Standing.{Later, AreOf}
-use Rattle.vc_gen.specs.Items.{chosen, AreSorts, SiteMeans}
+use Rattle.vc_gen.specs.Standing.{AreOf}
+use Rattle.vc_gen.specs.Items.{chosen, AreSorts}
 use Rattle.vc_gen.specs.Emit.{site_value}
 use Rattle.vc_gen.specs.Exact.{given_back, SameCalls}
-use Rattle.vc_gen.specs.Inputs.{block_at, items_at, sorts_of_blocks, givens_at, Shaped}
+use Rattle.vc_gen.specs.Inputs.{items_at, sorts_of_blocks, givens_at, Shaped}
 use Rattle.vc_gen.proofs.Growth.{map_later}
 use Rattle.vc_gen.proofs.Joining.{sorts_both}
 use Rattle.vc_gen.proofs.Shapes.{shaped_used, length_have}
@@ -54,7 +53,7 @@ module _ (flat : Limited) (q : FlatProc) (order : List ℕ) (actuals : Actuals) 
       let gs = givens_at flat q a (k + length (start_sorts q q.kind)) order in
       let m = failed flat q (b.env a) gs (first_edge (b.env a)) 0 (b.env a) (first_one (b.env a)) (sym (b.fails_is a f) ∙ on) in
       let w = m.way in
-      let l = failed_run flat q 0 (b.env a) (live_edges flat q (b.env a) gs (first_edge (b.env a))) (all_passages flat q (seen flat q (b.env a) gs (first_edge (b.env a)))) (all_places flat q (seen flat q (b.env a) gs (first_edge (b.env a)))) (seen_values (seen flat q (b.env a) gs (first_edge (b.env a)))) (along gs) m in
+      let l = failed_run flat q 0 (b.env a) (live_edges flat q (b.env a) gs (first_edge (b.env a))) (all_passages flat q (seen flat q (b.env a) gs (first_edge (b.env a)))) (all_places flat q (seen flat q (b.env a) gs (first_edge (b.env a)))) (seen_values (seen flat q (b.env a) gs (first_edge (b.env a)))) (all_values flat q (seen flat q (b.env a) gs (first_edge (b.env a)))) (along gs) m in
       let vs = w.values ++ m.values in
       let rs = w.results ++ (m.results ++ m.more) in
       let ms = map (site_value a new) sites in

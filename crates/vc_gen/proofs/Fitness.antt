@@ -1,5 +1,5 @@
 -- The passive form of a procedure whose variables and commands have their sorts is one that becomes terms.
-use Rattle.std.proofs.Common.{◌≡◌, ℕ, zero, suc, ◌+◌, ◌<◌, Bool, true, false, ◌&&◌, List, [], ◌∷◌, ◌++◌, map, length, ◌-◌, arith, sym, ◌∙◌, ap, refl, subst, append-nil, append_assoc, length-append}
+use Rattle.std.proofs.Common.{◌≡◌, ℕ, zero, suc, ◌+◌, Bool, true, false, List, [], ◌∷◌, ◌++◌, map, length, ◌-◌, arith, sym, ◌∙◌, ap, refl, subst, append-nil, append_assoc, length-append}
 use Rattle.std.specs.Prelude.{Option, None, Some, slice_get, slice_set, is_some, IsTrue, IsSome}
 use Rattle.std.specs.Option.{option_and_then}
 use Rattle.std.proofs.lemmas.List.{length-map}
@@ -8,7 +8,6 @@ use Rattle.hy_val.specs.NodeSorts.{is_sort}
 use Rattle.hy_val.specs.Values.{default}
 use Rattle.hy_val.specs.Laws.{renamed}
 use Rattle.hy_val.specs.declared.sort.Sort.{Sort}
-use Rattle.hy_val.specs.declared.value.Value.{Value}
 use Rattle.hy_val.specs.declared.expr.Var.{Var}
 use Rattle.hy_val.specs.declared.expr.Var.TheVariants.{Const, Global, Local}
 use Rattle.hy_val.specs.declared.expr.ExprNode.{ExprNode}
@@ -24,15 +23,14 @@ use Rattle.flat_prog.specs.declared.proc.FlatKind.TheVariants.{Source, Loop}
 use Rattle.flat_prog.specs.declared.proc.FlatProc.{FlatProc}
 use Rattle.passive_form.specs.Limited.{Limited}
 use Rattle.passive_form.specs.Local.{sort_of, targets_of, picked, replaced, changed_sorts}
-use Rattle.flat_prog.specs.Program.{outs_at, variables_of}
+use Rattle.flat_prog.specs.Program.{variables_of}
 use Rattle.flat_prog.specs.Shape.{exit_sort}
-use Rattle.passive_form.specs.WellSorted.{truth_sort, var_sort, ReadsSorted, AllSorted, PairsSorted, NamesSorted, TargetsHave, SortsGood, CmdSorted, CmdsSorted, LeadsOn, KindSorted, ProcSorted}
+use Rattle.passive_form.specs.WellSorted.{var_sort, ReadsSorted, AllSorted, PairsSorted, NamesSorted, TargetsHave, SortsGood, CmdSorted, CmdsSorted, LeadsOn, KindSorted, ProcSorted}
 use Rattle.passive_form.specs.declared.Item.{Item}
-use Rattle.passive_form.specs.declared.Item.TheVariants.{Let, Zero, Free, Need, Check, Site}
-use Rattle.passive_form.specs.Versions.{Cur, from, outs_from, after_from}
+use Rattle.passive_form.specs.Versions.{Cur, from}
 use Rattle.passive_form.specs.Making.{version_or, version_of, over_versions, set_version, set_versions, lets, sort_or, frees, callee_outs, callee_changes, items_of, cur_after, next_after, items_all, cur_end, entry_cur, entry_count, block_or, no_block, passive_block, passive_blocks, free_items, zero_items, passive_start, passive_of}
-use Rattle.passive_form.specs.Laws.{targets_there, cmd_there, cmds_there, AllThere as BlocksThere}
-use Rattle.vc_gen.specs.Items.{bool_sort, made_by, made, sort_in, ReadsIn, AllRead, AllThere, AreSorts, ItemFits, ItemsFit}
+use Rattle.passive_form.specs.Laws.{targets_there, cmd_there, cmds_there}
+use Rattle.vc_gen.specs.Items.{bool_sort, made_by, made, sort_in, ReadsIn, AllRead, AllThere, AreSorts, ItemsFit}
 use Rattle.vc_gen.specs.Fitting.{SortsAre, HasTarget, BlockFits, AllFit, PassiveFits}
 use Rattle.vc_gen.proofs.Joining.{and_two}
 

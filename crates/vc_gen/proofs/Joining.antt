@@ -3,14 +3,15 @@ use Rattle.vc_gen.proofs.Numbers.{numbers_then}
 use Rattle.vc_gen.proofs.Placed.{laid_then}
 use Rattle.vc_gen.proofs.Checked.{checks_then}
 use Rattle.vc_gen.proofs.Asks.{asks_later, asks_both}
+use Rattle.vc_gen.specs.Taken.{true_values, frees_in}
+use Rattle.vc_gen.proofs.Taking.{values_later, values_stay, values_there, values_both, frees_append}
 use Rattle.vc_gen.specs.Passages.{places_from}
-use Rattle.std.proofs.Common.{◌≡◌, ℕ, zero, suc, ◌+◌, ◌<◌, ◌≤◌, Bool, true, false, not, ◌&&◌, ◌||◌, List, [], ◌∷◌, ◌++◌, map, length, arith, sym, ◌∙◌, ap, refl, subst, append-nil, append_assoc, length-append}
-use Rattle.std.specs.Prelude.{Option, None, Some, slice_get, take, IsTrue, IsSome}
+use Rattle.std.proofs.Common.{◌≡◌, ℕ, zero, suc, ◌+◌, ◌<◌, ◌≤◌, Bool, true, false, ◌&&◌, ◌||◌, List, [], ◌∷◌, ◌++◌, map, length, arith, sym, ◌∙◌, ap, refl, subst, append-nil, append_assoc, length-append}
+use Rattle.std.specs.Prelude.{Some, slice_get, take, IsTrue}
 use Rattle.std.proofs.lemmas.List.{map-append}
 use Rattle.hy_val.specs.Values.{at, is_on, has_sort}
 use Rattle.hy_val.specs.declared.sort.Sort.{Sort}
 use Rattle.hy_val.specs.declared.value.Value.{Value}
-use Rattle.hy_term.specs.TermSorts.{sorts, sort_at}
 use Rattle.hy_term.specs.Meaning.{values, value, node_fits, fits}
 use Rattle.hy_term.specs.Variables.{below, reads}
 use Rattle.hy_term.specs.declared.node.TermNode.{TermNode}
@@ -18,15 +19,14 @@ use Rattle.hy_term.specs.declared.node.TermNode.TheVariants.{Variable}
 use Rattle.passive_form.specs.Local.{sorted_as}
 use Rattle.passive_form.specs.declared.Item.{Item}
 use Rattle.passive_form.specs.declared.Item.TheVariants.{Let, Zero, Free, Need, Check, Site}
-use Rattle.passive_form.specs.Versions.{look_at, Defined}
 use Rattle.passive_form.proofs.Passing.{defined_append}
 use Rattle.vc_gen.specs.declared.parts.Draft.{Draft}
 use Rattle.vc_gen.specs.declared.parts.SiteTerm.{SiteTerm}
 use Rattle.vc_gen.specs.declared.parts.FailTerm.{FailTerm}
 use Rattle.vc_gen.specs.Standing.{Later, AreOf, variables_in}
-use Rattle.vc_gen.specs.Items.{bool_sort, made_by, made, chosen_by, chosen, ItemFits, ItemsFit, SiteMeans, FailMeans, input_of, inputs, on_after, on_end, fails_by, fails_in, site_by, sites_in, assert_by, asserts_in}
-use Rattle.vc_gen.specs.Emit.{SitesOf, SiteIs, AreVariables, Stands, ItemReady, Meant, Fresh, site_value, fail_value, SiteThere, SitesThere, FailsThere, Says, Step, site_place}
-use Rattle.vc_gen.proofs.Growth.{later_same, later_then, value_later, sort_later, are_later, are_append, map_later, sort_within, are_got, are_count}
+use Rattle.vc_gen.specs.Items.{bool_sort, made_by, made, chosen_by, chosen, SiteMeans, FailMeans, input_of, inputs, on_after, on_end, fails_by, fails_in, site_by, sites_in, assert_by, asserts_in}
+use Rattle.vc_gen.specs.Emit.{SitesOf, AreVariables, Stands, Meant, site_value, fail_value, SiteThere, SitesThere, FailsThere, Step, site_place}
+use Rattle.vc_gen.proofs.Growth.{later_same, later_then, value_later, sort_later, are_later, are_append, map_later, sort_within}
 
 pub made_append : (xs ys : List Item) → made (xs ++ ys) ≡ made xs ++ made ys
 made_append [] ys = refl
@@ -292,6 +292,10 @@ step_nil cs block old d csorts vsorts h = record {
   asserts_there = tt;
   asserts_behind = sym (append-nil d.asserts);
   checked = refl;
+  values = [];
+  values_there = tt;
+  values_behind = sym (append-nil d.values);
+  taken = λ a consts vals f m. refl;
   says = λ a consts vals f m. record { defined = tt; on = refl; fails = refl; inputs_are = refl; sites_are = refl; asserts_are = refl };
   fit = λ a f k. f;
 }
@@ -328,6 +332,15 @@ step_then cs block old mid new d m e csorts vsorts xs ys h s t =
       asserts_there = fails_there_append new s.asserts t.asserts (fails_stay mid new s.asserts t.later s.asserts_there) t.asserts_there;
       checked = checks_then block s.asserts t.asserts xs ys s.checked t.checked;
       asserts_behind = t.asserts_behind ∙ ap (λ r. r ++ t.asserts) s.asserts_behind ∙ append_assoc d.asserts s.asserts t.asserts;
+      values = s.values ++ t.values;
+      values_there = values_there new s.values t.values (values_stay mid new s.values t.later s.values_there) t.values_there;
+      values_behind = t.values_behind ∙ ap (λ r. r ++ t.values) s.values_behind ∙ append_assoc d.values s.values t.values;
+      taken = λ a consts vals f w.
+          let f1 = fits_before a mid new t.later f in
+          let back = meant_back a mid new cs m.versions t.more e.versions csorts (vsorts ++ made xs) consts vals t.later st.consts st.versions t.versions w in
+          let on = is_on (value a old d.cond) in
+          values_both a new s.values t.values ∙ ap (λ r. r ++ true_values a new t.values) (values_later mid new a s.values t.later s.values_there ∙ s.taken a consts vals f1 back)
+          ∙ ap (λ r. frees_in consts vals on xs ++ r) (t.taken a consts vals f w ∙ ap (λ b. frees_in consts vals b ys) (s.says a consts vals f1 back).on) ∙ sym (frees_append consts vals on xs ys);
       says = λ a consts vals f w.
           let two = t.says a consts vals f w in
           let one = s.says a consts vals (fits_before a mid new t.later f) (meant_back a mid new cs m.versions t.more e.versions csorts (vsorts ++ made xs) consts vals t.later st.consts st.versions t.versions w) in

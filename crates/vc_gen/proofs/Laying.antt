@@ -1,8 +1,5 @@
 -- Values of blocks are laid out as variables in a row, and read back.
-use Rattle.std.proofs.Common.{◌≡◌, ℕ, zero, suc, ◌+◌, ◌-◌, ◌<◌, Bool, true, false, not, ◌&&◌, List, [], ◌∷◌, ◌++◌, map, length, take, drop, replicate, arith, sym, ◌∙◌, ap, refl, subst, append-nil, append_assoc, length-append}
-use Rattle.std.specs.Prelude.{IsTrue}
-use Rattle.std.proofs.lemmas.List.{length-map}
-use Rattle.hy_val.specs.NodeSorts.{is_sort}
+use Rattle.std.proofs.Common.{◌≡◌, ℕ, zero, suc, ◌+◌, Bool, true, false, List, [], ◌∷◌, ◌++◌, map, length, replicate, arith, sym, ◌∙◌, ap, refl, length-append}
 use Rattle.hy_val.specs.Values.{is_on, has_sort, zero_of}
 use Rattle.hy_val.specs.declared.atom.AtomKind.TheVariants.{Bool as BoolAtom}
 use Rattle.hy_val.specs.declared.sort.Sort.{Sort}
@@ -18,7 +15,7 @@ use Rattle.vc_gen.specs.Fold.{Given}
 use Rattle.vc_gen.proofs.Complete.{Each}
 use Rattle.vc_gen.specs.Items.{bool_sort, chosen, AreSorts}
 use Rattle.vc_gen.specs.Inputs.{values_in, results_in, items_at, choices_at, sorts_of_block, sorts_of_blocks, given_at, givens_at, Shaped}
-use Rattle.vc_gen.proofs.Joining.{reads_append, length_reads, sorts_both, and_two, and_second}
+use Rattle.vc_gen.proofs.Joining.{reads_append, length_reads, sorts_both, and_two}
 use Rattle.vc_gen.proofs.Shapes.{length_have}
 
 -- two lists of which the first parts are equally long

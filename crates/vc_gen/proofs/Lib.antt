@@ -10,8 +10,11 @@ pub mod Fails
 pub mod Alikes
 pub mod Breaches
 pub mod Marks
+pub mod Takes
 pub mod Traces
 pub mod Failures
+pub mod Wholly
+pub mod Deciding
 pub mod Completes
 pub mod Arrives
 pub mod BlockPlanning
@@ -34,6 +37,7 @@ pub mod Differing
 pub mod OneEach
 pub mod Nodes
 pub mod Walking
+pub mod Taking
 pub mod Joining
 pub mod Pushing
 pub mod Passes
@@ -54,6 +58,7 @@ pub mod Arriving
 pub mod Outward
 pub mod Breakages
 pub mod Exacting
+pub mod Havocs
 pub mod Signing
 pub mod Bodies
 pub mod Wending
@@ -62,6 +67,7 @@ pub mod Assembling
 pub mod Sortable
 pub mod Shards
 pub mod Faults
+pub mod Valuing
 pub mod Fitness
 pub mod Asking
 pub mod Rows

@@ -1,6 +1,6 @@
 -- Edges that are passed, block by block.
-use Rattle.std.proofs.Common.{◌≡◌, ℕ, ◌+◌, Bool, true, false, ◌&&◌, List, [], ◌∷◌, ◌++◌, sym, ◌∙◌, ap, refl, subst, inl, inr, append-nil, append_assoc}
-use Rattle.std.specs.Prelude.{Option, None, Some, if◌then◌else◌, slice_get}
+use Rattle.std.proofs.Common.{◌≡◌, ℕ, ◌+◌, Bool, true, false, List, [], ◌∷◌, ◌++◌, sym, ◌∙◌, ap, refl, inr, append-nil, append_assoc}
+use Rattle.std.specs.Prelude.{Option, None, Some, slice_get}
 use Rattle.hy_val.specs.declared.expr.Env.{Env}
 use Rattle.flat_prog.specs.declared.block.FlatNext.{FlatNext}
 use Rattle.flat_prog.specs.declared.block.FlatNext.TheVariants.{Goto, Return}
@@ -8,7 +8,7 @@ use Rattle.flat_prog.specs.declared.block.FlatBlock.{FlatBlock}
 use Rattle.flat_prog.specs.declared.proc.FlatProc.{FlatProc}
 use Rattle.passive_form.specs.Limited.{Limited}
 use Rattle.passive_form.specs.Local.{State}
-use Rattle.vc_gen.specs.Fold.{Edge, Given, Seen, seen, seen_at, reached, entered, others, through, fan, out_next, out_of, passed, step, fold, places_on, edges_next, edges_out, live_edges}
+use Rattle.vc_gen.specs.Fold.{Edge, Given, Seen, reached, entered, others, through, fan, out_next, passed, step, fold, places_on, edges_next, edges_out, live_edges}
 use Rattle.vc_gen.specs.Passages.{marked, targets_on, passages_seen, all_passages, places_seen, all_places}
 use Rattle.vc_gen.specs.Alike.{Alike}
 use Rattle.vc_gen.proofs.Alikes.{alike_reached, alike_entered}

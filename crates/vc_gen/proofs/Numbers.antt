@@ -1,5 +1,5 @@
 -- Lists of consecutive numbers, part by part.
-use Rattle.std.proofs.Common.{◌≡◌, ℕ, zero, suc, ◌+◌, List, [], ◌∷◌, ◌++◌, arith, sym, ◌∙◌, ap, append_assoc}
+use Rattle.std.proofs.Common.{◌≡◌, ℕ, zero, suc, ◌+◌, List, ◌∷◌, ◌++◌, arith, sym, ◌∙◌, ap, append_assoc}
 use Rattle.flat_prog.specs.Sites.{numbers_from}
 
 pub numbers_append : (k n m : ℕ) → numbers_from k (n + m) ≡ numbers_from k n ++ numbers_from (k + n) m

@@ -1,6 +1,6 @@
 -- Literals, the start of a procedure, and the outs at its end.
-use Rattle.std.proofs.Common.{◌≡◌, ℕ, zero, suc, ◌+◌, ◌-◌, ◌<◌, ◌≤◌, Bool, true, false, not, ◌&&◌, ◌||◌, List, [], ◌∷◌, ◌++◌, map, length, take, drop, arith, sym, ◌∙◌, ap, refl, subst, append-nil, append_assoc, length-append}
-use Rattle.std.specs.Prelude.{Option, None, Some, slice_get, slice_index, slice_index_or, IsTrue, IsSome, if◌then◌else◌}
+use Rattle.std.proofs.Common.{◌≡◌, ℕ, zero, suc, ◌+◌, ◌-◌, ◌<◌, ◌≤◌, Bool, true, false, List, [], ◌∷◌, ◌++◌, map, length, take, drop, arith, sym, ◌∙◌, ap, refl, append_assoc, length-append}
+use Rattle.std.specs.Prelude.{Option, None, Some, slice_index, IsTrue, IsSome, if◌then◌else◌}
 use Rattle.std.specs.Option.{option_and_then}
 use Rattle.std.proofs.lemmas.List.{map-append, length-map}
 use Rattle.hy_val.specs.Values.{at, is_on, has_sort, zero_of}
@@ -8,9 +8,9 @@ use Rattle.hy_val.specs.declared.atom.AtomKind.TheVariants.{Bool as BoolAtom}
 use Rattle.hy_val.specs.declared.sort.Sort.{Sort}
 use Rattle.hy_val.specs.declared.value.Value.{Value}
 use Rattle.hy_val.specs.declared.expr.Env.{Env}
-use Rattle.hy_term.specs.TermSorts.{sorts, sort_at, sort_behind, fits_behind}
+use Rattle.hy_term.specs.TermSorts.{sorts, sort_at, sort_behind}
 use Rattle.hy_term.specs.Meaning.{values, value, fits}
-use Rattle.hy_term.specs.Variables.{below, reads}
+use Rattle.hy_term.specs.Variables.{reads}
 use Rattle.hy_term.specs.declared.node.TermNode.{TermNode}
 use Rattle.hy_term.specs.declared.node.TermNode.TheVariants.{Lit}
 use Rattle.hy_term.proofs.Growing.{value-new}
@@ -18,11 +18,8 @@ use Rattle.flat_prog.specs.declared.proc.FlatKind.{FlatKind}
 use Rattle.flat_prog.specs.declared.proc.FlatKind.TheVariants.{Source, Loop}
 use Rattle.flat_prog.specs.declared.proc.FlatProc.{FlatProc}
 use Rattle.passive_form.specs.Limited.{Limited}
-use Rattle.passive_form.specs.Local.{State, alone, sorted_as, start}
+use Rattle.passive_form.specs.Local.{alone, sorted_as, start}
 use Rattle.flat_prog.specs.Shape.{exit_sort}
-use Rattle.passive_form.specs.declared.Item.{Item}
-use Rattle.passive_form.specs.declared.Item.TheVariants.{Let, Zero, Free, Need, Check, Site}
-use Rattle.passive_form.specs.declared.PassiveStart.{PassiveStart}
 use Rattle.passive_form.specs.Versions.{Defined, from}
 use Rattle.passive_form.specs.Making.{free_items, zero_items, passive_start}
 use Rattle.vc_gen.specs.declared.parts.Draft.{Draft}
@@ -31,9 +28,8 @@ use Rattle.vc_gen.specs.Items.{bool_sort, chosen, inputs, fails_in, sites_in}
 use Rattle.vc_gen.specs.Emit.{Step, terms_of}
 use Rattle.vc_gen.specs.Instance.{all_at, start_sorts}
 use Rattle.vc_gen.specs.Whole.{IsLiteral}
-use Rattle.vc_gen.proofs.Looking.{take_at, take_all}
-use Rattle.vc_gen.proofs.Growth.{later_push, plain_push, sort_added, are_count, map_later}
-use Rattle.vc_gen.proofs.Joining.{and_two, and_first, and_second}
+use Rattle.vc_gen.proofs.Growth.{later_push, plain_push, sort_added, are_count}
+use Rattle.vc_gen.proofs.Joining.{and_two}
 use Rattle.vc_gen.proofs.Calling.{span_values}
 use Rattle.vc_gen.proofs.Shapes.{take_front, drop_front}
 use Rattle.vc_gen.proofs.Stepping.{vals_at, meant_at, terms_are}

@@ -1,23 +1,18 @@
 -- A block is left, by a goto or a return.
-use Rattle.std.proofs.Common.{◌≡◌, ℕ, zero, suc, ◌+◌, ◌-◌, ◌<◌, Bool, true, List, [], ◌∷◌, ◌++◌, map, length, replicate, arith, sym, ◌∙◌, ap, refl, subst, append-nil}
-use Rattle.std.specs.Prelude.{Option, None, Some, slice_get, slice_index, IsTrue, IsSome}
-use Rattle.hy_val.specs.Values.{at, is_on}
+use Rattle.std.proofs.Common.{◌≡◌, ℕ, List, [], ◌∷◌, ◌++◌, arith, sym, refl, append-nil}
+use Rattle.std.specs.Prelude.{None, Some, IsTrue, IsSome}
 use Rattle.hy_val.specs.declared.sort.Sort.{Sort}
-use Rattle.hy_val.specs.declared.value.Value.{Value}
 use Rattle.hy_term.specs.TermSorts.{sorts, sort_at}
-use Rattle.hy_term.specs.Meaning.{values, value, fits}
-use Rattle.hy_term.specs.Variables.{below, reads}
+use Rattle.hy_term.specs.Variables.{below}
 use Rattle.hy_term.specs.declared.node.TermNode.{TermNode}
-use Rattle.flat_prog.specs.declared.block.FlatNext.{FlatNext}
 use Rattle.flat_prog.specs.declared.block.FlatNext.TheVariants.{Goto, Return}
 use Rattle.vc_gen.specs.declared.parts.Draft.{Draft}
 use Rattle.vc_gen.specs.declared.parts.Wait.{Wait}
-use Rattle.vc_gen.specs.Standing.{Later, AreOf, variables_in}
+use Rattle.vc_gen.specs.Standing.{AreOf, variables_in}
 use Rattle.vc_gen.specs.Items.{bool_sort}
 use Rattle.vc_gen.specs.Emit.{terms_of}
-use Rattle.vc_gen.specs.Joins.{WaitOf, WaitsOf}
-use Rattle.vc_gen.specs.Edges.{Framed, ListThere, Fanned}
-use Rattle.vc_gen.specs.Fitting.{SortsAre, HasTarget}
+use Rattle.vc_gen.specs.Edges.{Fanned}
+use Rattle.vc_gen.specs.Fitting.{SortsAre}
 use Rattle.vc_gen.specs.Flowing.{LeftBy}
 use Rattle.vc_gen.proofs.Growth.{later_same, are_at}
 

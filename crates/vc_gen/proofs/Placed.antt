@@ -15,7 +15,7 @@ use Rattle.vc_gen.specs.declared.parts.SiteTerm.{SiteTerm}
 use Rattle.vc_gen.specs.Items.{bool_sort, chosen}
 use Rattle.vc_gen.specs.Inputs.{items_at, sorts_of_block}
 use Rattle.vc_gen.specs.Fitting.{block_sorts, blocks_sorts}
-use Rattle.vc_gen.specs.Laid.{Laid, site_laid, calls_laid, sites_laid, blocks_laid}
+use Rattle.vc_gen.specs.Laid.{site_laid, calls_laid, sites_laid, blocks_laid}
 
 pub laid_append : (n c k : ℕ) (xs ys : List Item) (i j : ℕ) → i ≡ c + length (calls_laid n c k xs) → j ≡ k + length (chosen xs) → calls_laid n c k (xs ++ ys) ≡ calls_laid n c k xs ++ calls_laid n i j ys
 laid_append n c k [] ys i j h g =

@@ -1,50 +1,38 @@
 -- What a run that ends settles.
-use Rattle.std.proofs.Common.{◌≡◌, ℕ, zero, suc, ◌+◌, ◌-◌, ◌<◌, Bool, true, false, not, ◌&&◌, List, [], ◌∷◌, ◌++◌, map, length, take, drop, arith, sym, ◌∙◌, ap, refl, subst, inl, inr, append-nil, append_assoc, length-append}
-use Rattle.std.specs.Prelude.{Option, None, Some, nat_lt, nat_eq, if◌then◌else◌, IsTrue, IsSome, ◌⊎◌}
-use Rattle.std.proofs.lemmas.Bool.Decides.{nat_tests}
-use Rattle.hy_val.specs.Values.{at, is_on, zero_of}
+use Rattle.std.proofs.Common.{◌≡◌, ℕ, ◌+◌, true, List, [], ◌∷◌, ◌++◌, map, length, sym, ◌∙◌, ap, subst, inr}
+use Rattle.std.specs.Prelude.{Some, IsTrue}
+use Rattle.hy_val.specs.Values.{at}
 use Rattle.hy_val.specs.declared.sort.Sort.{Sort}
-use Rattle.hy_val.specs.declared.value.Value.{Value}
 use Rattle.hy_val.specs.declared.expr.Env.{Env}
-use Rattle.hy_term.specs.Meaning.{values, value, fits, extended}
+use Rattle.hy_term.specs.Meaning.{values}
 use Rattle.hy_term.specs.Variables.{below, reads}
 use Rattle.hy_term.specs.declared.node.TermNode.{TermNode}
-use Rattle.hy_term.proofs.Numbering.{new_variables}
-use Rattle.flat_prog.specs.declared.proc.FlatKind.{FlatKind}
-use Rattle.flat_prog.specs.declared.proc.FlatKind.TheVariants.{Source, Loop}
-use Rattle.flat_prog.specs.declared.block.FlatBlock.{FlatBlock}
 use Rattle.flat_prog.specs.declared.proc.FlatProc.{FlatProc}
 use Rattle.passive_form.specs.Limited.{Limited}
-use Rattle.passive_form.specs.Local.{State, alone, sorted_as, start, LocalEnds, AllTaken}
-use Rattle.flat_prog.specs.Local.{Result, Request, outs_of}
-use Rattle.flat_prog.specs.Shape.{exit_sort}
-use Rattle.vc_gen.specs.Fold.{Edge, Given, fold, seen, live_edges, ends, end_env, One, Dead}
+use Rattle.passive_form.specs.Local.{State, alone, start}
+use Rattle.flat_prog.specs.Local.{Request, outs_of}
+use Rattle.vc_gen.specs.Fold.{fold, seen, live_edges, ends, end_env}
 use Rattle.flat_prog.specs.Ordering.{is_in, Onward}
 use Rattle.vc_gen.specs.Alike.{Alike}
 use Rattle.vc_gen.proofs.Alikes.{alike_ends, alike_end_env}
 use Rattle.vc_gen.proofs.Edges.{one_ends, one_end_env}
-use Rattle.vc_gen.proofs.Frames.{choose_some}
 use Rattle.vc_gen.proofs.Traces.{traced}
-use Rattle.vc_gen.specs.Passages.{Passage, all_passages, on_requests, on_results, along}
-use Rattle.vc_gen.proofs.Complete.{Each, Ending}
-use Rattle.vc_gen.proofs.Completes.{completed}
-use Rattle.vc_gen.specs.Standing.{Later, AreOf}
+use Rattle.vc_gen.specs.Passages.{all_passages, on_requests, along}
+use Rattle.vc_gen.proofs.Complete.{Ending}
+use Rattle.vc_gen.specs.Standing.{AreOf}
 use Rattle.vc_gen.specs.declared.parts.Wait.{Wait}
 use Rattle.vc_gen.specs.declared.parts.EdgeTerm.{EdgeTerm}
 use Rattle.vc_gen.specs.declared.parts.SiteTerm.{SiteTerm}
-use Rattle.vc_gen.specs.Items.{chosen, AreSorts, SiteMeans}
 use Rattle.vc_gen.specs.Emit.{site_value}
-use Rattle.vc_gen.specs.Exact.{request_of, result_of, SameCalls, asked, given_back}
-use Rattle.vc_gen.specs.Inputs.{items_at, sorts_of_blocks, givens_at, Shaped}
+use Rattle.vc_gen.specs.Exact.{SameCalls, given_back}
+use Rattle.vc_gen.specs.Inputs.{givens_at, Shaped}
 use Rattle.vc_gen.specs.declared.parts.Actuals.{Actuals}
-use Rattle.vc_gen.specs.Instance.{all_at, edges_at, start_sorts, room, first_edge, Built, EndsFrom, EndsSound, Answers, EndsComplete}
+use Rattle.vc_gen.specs.Instance.{all_at, edges_at, start_sorts, first_edge, Built}
 use Rattle.vc_gen.proofs.Growth.{map_later}
-use Rattle.vc_gen.proofs.Joining.{sorts_both}
-use Rattle.vc_gen.proofs.Shapes.{shaped_used, length_have}
-use Rattle.vc_gen.proofs.Laying.{laid, dull, dull_shaped, read_split}
+use Rattle.vc_gen.proofs.Shapes.{shaped_used}
 use Rattle.vc_gen.proofs.BlockPlanning.{Never, Nowhere, planned}
-use Rattle.vc_gen.specs.Plans.{EndPlan, EndsPlanned}
-use Rattle.vc_gen.proofs.Rows.{StopRow, laid_plan, old_same}
+use Rattle.vc_gen.specs.Plans.{EndsPlanned}
+use Rattle.vc_gen.proofs.Rows.{laid_plan, old_same}
 use Rattle.vc_gen.proofs.Ends.{same_requests, same_results, some_lists, first_one, started, some_state, same_walk}
 
 module _ (flat : Limited) (q : FlatProc) (order : List ℕ) (actuals : Actuals) (csorts gsorts isorts : List Sort) (k : ℕ) (old new : List TermNode) (left : List Wait) (ended fails : ℕ) (outs globals : List ℕ) (edges : List EdgeTerm) (sites : List SiteTerm)

@@ -1,7 +1,7 @@
 -- One node more: bits of bits, and new variables.
 use Rattle.flat_prog.specs.Sites.{numbers_from}
-use Rattle.std.proofs.Common.{◌≡◌, ℕ, zero, suc, ◌+◌, ◌<◌, ◌≤◌, Bool, true, false, not, ◌&&◌, ◌||◌, List, [], ◌∷◌, ◌++◌, map, length, take, arith, sym, ◌∙◌, ap, refl, subst, append-nil, append_assoc, length-append}
-use Rattle.std.specs.Prelude.{Option, None, Some, slice_get, slice_index_or, nat_lt, nat_eq, IsTrue, IsSome, if◌then◌else◌}
+use Rattle.std.proofs.Common.{◌≡◌, ℕ, zero, suc, ◌+◌, ◌<◌, ◌≤◌, Bool, true, not, ◌&&◌, ◌||◌, List, [], ◌∷◌, ◌++◌, map, length, take, arith, sym, ◌∙◌, ap, refl, subst, append-nil, append_assoc, length-append}
+use Rattle.std.specs.Prelude.{Option, None, Some, slice_index_or, nat_lt, IsTrue, IsSome, if◌then◌else◌}
 use Rattle.std.specs.Option.{option_and_then}
 use Rattle.std.proofs.lemmas.List.{map-append}
 use Rattle.std.proofs.lemmas.Bool.Decides.{nat_tests}
@@ -12,13 +12,12 @@ use Rattle.hy_val.specs.declared.atom.Atom.{Atom}
 use Rattle.hy_val.specs.declared.atom.AtomKind.TheVariants.{Bool as BoolAtom, Bv as BvAtom}
 use Rattle.hy_val.specs.declared.sort.Sort.{Sort}
 use Rattle.hy_val.specs.declared.sort.ScalarKind.TheVariants.{Bool as BoolSort}
-use Rattle.hy_val.specs.declared.sort.SortKind.TheVariants.{Scalar as ScalarSort}
 use Rattle.hy_val.specs.declared.operator.UnOp.TheVariants.{Not}
 use Rattle.hy_val.specs.declared.operator.BvOp.TheVariants.{And, Or}
 use Rattle.hy_val.specs.declared.value.Value.{Value}
 use Rattle.hy_val.specs.declared.value.Value.TheVariants.{Atom as AtomValue, Map as MapValue}
 use Rattle.hy_val.proofs.Lawful.{keep_sorts}
-use Rattle.hy_term.specs.TermSorts.{sorts, sort_at, sort_behind, sort_if, sort_of_number, free_or_same, fits_behind}
+use Rattle.hy_term.specs.TermSorts.{sorts, sort_at, sort_behind, free_or_same, fits_behind}
 use Rattle.hy_term.specs.Meaning.{values, value, node_value, fits}
 use Rattle.hy_term.specs.Variables.{node_below, below, reads}
 use Rattle.hy_term.specs.declared.node.TermNode.{TermNode}
@@ -29,11 +28,11 @@ use Rattle.hy_term.proofs.Typing.{value_has_sort}
 use Rattle.hy_term.proofs.Sorting.{and_both, and_left, and_right}
 use Rattle.passive_form.specs.Local.{sorted_as}
 use Rattle.vc_gen.specs.declared.parts.Draft.{Draft}
-use Rattle.vc_gen.specs.Standing.{Later, Plain, AreOf, variables_in}
+use Rattle.vc_gen.specs.Standing.{Later, variables_in}
 use Rattle.vc_gen.specs.Items.{bool_sort, AreSorts}
 use Rattle.vc_gen.specs.Emit.{Bit, IsBoth, IsEither, IsNot, row_of, Fresh, FreshSoFar}
 use Rattle.passive_form.specs.Versions.{from}
-use Rattle.vc_gen.proofs.Growth.{behind_unary, behind_binary, sort_added, fits_by, later_same, later_push, later_then, plain_push, below_push, fits_push, are_later, are_append, map_later, sort_within, variables_append}
+use Rattle.vc_gen.proofs.Growth.{behind_unary, behind_binary, sort_added, fits_by, later_same, later_push, later_then, below_push, fits_push, are_later, are_append, map_later, variables_append}
 use Rattle.vc_gen.proofs.Looking.{take_at, take_all}
 use Rattle.vc_gen.proofs.Joining.{reads_append, length_reads, sorts_left, sorts_right, and_first}
 

@@ -1,7 +1,6 @@
 -- Each block that is reached is reached by a path, whose edges are those that are passed before it.
-use Rattle.std.proofs.Common.{◌≡◌, ℕ, ◌+◌, ◌<◌, zero, suc, Bool, true, false, not, ◌&&◌, ◌||◌, List, [], ◌∷◌, ◌++◌, length, take, arith, sym, ◌∙◌, ap, refl, subst, inl, inr, append-nil, append_assoc}
-use Rattle.std.specs.Prelude.{Option, None, Some, nat_eq, if◌then◌else◌, slice_get, ◌⊎◌, option_and_then}
-use Rattle.std.proofs.lemmas.Bool.Decides.{nat_tests}
+use Rattle.std.proofs.Common.{◌≡◌, ℕ, ◌+◌, zero, suc, Bool, true, false, List, [], ◌∷◌, ◌++◌, take, arith, sym, ◌∙◌, ap, refl, subst, inl, inr, append-nil, append_assoc}
+use Rattle.std.specs.Prelude.{Option, None, Some, nat_eq, if◌then◌else◌, slice_get, option_and_then}
 use Rattle.std.proofs.lemmas.Grind.{common_steps}
 use Rattle.hy_val.specs.declared.value.Value.{Value}
 use Rattle.hy_val.specs.declared.expr.Env.{Env}
@@ -10,14 +9,13 @@ use Rattle.flat_prog.specs.declared.block.FlatNext.TheVariants.{Goto, Return}
 use Rattle.flat_prog.specs.declared.block.FlatBlock.{FlatBlock}
 use Rattle.flat_prog.specs.declared.proc.FlatProc.{FlatProc}
 use Rattle.passive_form.specs.Limited.{Limited}
-use Rattle.passive_form.specs.Local.{State, alone, walk, pass_all, cmds_of, is_target}
+use Rattle.passive_form.specs.Local.{State, alone, walk, pass_all, cmds_of}
 use Rattle.flat_prog.specs.Local.{Request, Result, edges_of}
 use Rattle.flat_prog.specs.Shape.{place_at, place_of}
-use Rattle.vc_gen.specs.Fold.{Edge, Given, Seen, seen, places_on, edges_next, edges_out, live_edges, reached, entered, others, through, closed, fan, out_next, out_of, passed, step, fold, Dead, One}
-use Rattle.vc_gen.proofs.Frames.{framed, pass_all_frame, walk_frame}
+use Rattle.vc_gen.specs.Fold.{Edge, Given, Seen, seen, places_on, edges_next, edges_out, live_edges, reached, entered, others, through, closed, fan, out_next, out_of, passed, step, Dead, One}
+use Rattle.vc_gen.proofs.Frames.{pass_all_frame, walk_frame}
 use Rattle.vc_gen.proofs.Edges.{dead_append, dead_out, dead_reached, dead_step, one_reached, one_entered, one_dead, one_unreached, one_right, end_step}
 use Rattle.vc_gen.proofs.Sound.{closed_is, same_state, edge_is, number_is}
-use Rattle.vc_gen.proofs.Used.{Used}
 
 -- a path from b with env to c with over, whatever values and results come after; these edges are passed
 pub record Reaches (flat : Limited) (q : FlatProc) (b : ℕ) (env : Env) (c : ℕ) (over : Env) (edges : List (ℕ × ℕ)) : Type 0 where

@@ -1,19 +1,17 @@
 -- What a procedure of a flat program has, its passive form wants.
-use Rattle.std.proofs.Common.{◌≡◌, ℕ, zero, suc, ◌<◌, Bool, true, ◌&&◌, List, [], ◌∷◌, length, arith, sym, subst}
-use Rattle.std.specs.Prelude.{Some, slice_get, slice_index_or, nat_lt, IsTrue}
+use Rattle.std.proofs.Common.{◌≡◌, ℕ, zero, suc, ◌<◌, true, List, [], ◌∷◌, length, arith, sym, subst}
+use Rattle.std.specs.Prelude.{Some, slice_get, slice_index_or, nat_lt}
 use Rattle.std.proofs.lemmas.Bool.Decides.{nat_tests}
 use Rattle.std.proofs.lemmas.Option.{slice_get_within}
 use Rattle.hy_val.proofs.Booleans.{and-first}
 use Rattle.hy_val.specs.Scope.{are_numbered}
 use Rattle.flat_prog.specs.Program.{FlatProgram}
-use Rattle.flat_prog.specs.Shape.{IsFlat, IsFlatProc}
-use Rattle.flat_prog.specs.declared.block.FlatBlock.{FlatBlock}
+use Rattle.flat_prog.specs.Shape.{IsFlatProc}
 use Rattle.flat_prog.specs.declared.proc.FlatProc.{FlatProc}
 use Rattle.passive_form.specs.Limited.{limited}
-use Rattle.passive_form.specs.declared.Passive.{Passive}
-use Rattle.passive_form.specs.Laws.{ProcsAreSorted, OrderedAreThere, IsPassiveOf}
+use Rattle.passive_form.specs.Laws.{ProcsAreSorted, OrderedAreThere}
 use Rattle.vc_gen.specs.Fitting.{PassiveFits}
-use Rattle.vc_gen.specs.Whole.{IsOrder, SortedFit, PassiveReady}
+use Rattle.vc_gen.specs.Whole.{SortedFit, PassiveReady}
 
 index_is : {A : Type 0} (xs : List A) (n : ℕ) (x : A) → slice_get xs n ≡ Some x → slice_index_or xs n x ≡ x
 index_is [] n x e = cc

@@ -1,11 +1,9 @@
 -- A run that fails in a callee may fail there with any assert.
-use Rattle.std.proofs.Common.{◌≡◌, ℕ, ◌+◌, zero, suc, Bool, true, false, not, ◌&&◌, List, [], ◌∷◌, ◌++◌, map, sym, ◌∙◌, ap, refl, subst}
+use Rattle.std.proofs.Common.{◌≡◌, ℕ, Bool, true, false, List, [], ◌∷◌, ◌++◌, map, ◌∙◌, ap}
 use Rattle.std.specs.Prelude.{Option, None, Some, if◌then◌else◌, slice_get}
 use Rattle.std.specs.Option.{option_and_then}
 use Rattle.hy_val.specs.declared.value.Value.{Value}
 use Rattle.hy_val.specs.declared.expr.Var.{Var}
-use Rattle.hy_val.specs.declared.expr.Env.{Env}
-use Rattle.hy_val.specs.declared.expr.ExprNode.{ExprNode}
 use Rattle.flat_prog.specs.declared.block.FlatCmd.{FlatCmd}
 use Rattle.flat_prog.specs.declared.block.FlatCmd.TheVariants.{Assign, Havoc, Assume, Assert, Call}
 use Rattle.flat_prog.specs.declared.block.FlatBlock.{FlatBlock}

@@ -1,5 +1,5 @@
 -- Marked elements of a list are replaced, one after the other.
-use Rattle.std.proofs.Common.{◌≡◌, ℕ, zero, suc, ◌+◌, ◌<◌, ◌≤◌, Bool, true, false, List, [], ◌∷◌, ◌++◌, length, arith, sym, ◌∙◌, ap, refl, subst, append-nil, append_assoc}
+use Rattle.std.proofs.Common.{◌≡◌, ℕ, zero, suc, ◌+◌, ◌<◌, ◌≤◌, Bool, true, false, List, [], ◌∷◌, ◌++◌, length, arith, sym, ◌∙◌, ap, refl, append-nil, append_assoc}
 use Rattle.std.specs.Prelude.{drop, slice_index, slice_index_or}
 use Rattle.passive_form.specs.Local.{replaced}
 use Rattle.vc_gen.specs.Emit.{Behind, left}

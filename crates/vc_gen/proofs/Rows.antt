@@ -1,6 +1,6 @@
 -- What is settled of the blocks of a path is laid out in a row, and read back.
-use Rattle.std.proofs.Common.{◌≡◌, ℕ, zero, suc, ◌+◌, ◌<◌, Bool, true, false, ◌&&◌, List, [], ◌∷◌, ◌++◌, map, length, replicate, take, arith, sym, ◌∙◌, ap, refl, subst, append-nil, append_assoc, length-append}
-use Rattle.std.specs.Prelude.{Option, None, Some, nat_lt, slice_get, IsTrue}
+use Rattle.std.proofs.Common.{◌≡◌, ℕ, zero, suc, ◌+◌, ◌<◌, true, List, [], ◌∷◌, ◌++◌, map, length, replicate, take, arith, sym, ◌∙◌, ap, refl, subst, append_assoc, length-append}
+use Rattle.std.specs.Prelude.{Option, None, Some, slice_get, IsTrue}
 use Rattle.std.proofs.lemmas.Bool.Decides.{nat_tests}
 use Rattle.hy_val.specs.Values.{has_sort}
 use Rattle.hy_val.specs.declared.sort.Sort.{Sort}
@@ -14,8 +14,7 @@ use Rattle.flat_prog.specs.declared.proc.FlatProc.{FlatProc}
 use Rattle.passive_form.specs.Limited.{Limited}
 use Rattle.passive_form.specs.Local.{sorted_as}
 use Rattle.vc_gen.specs.Fold.{Given}
-use Rattle.flat_prog.specs.Ordering.{is_in}
-use Rattle.vc_gen.specs.BlockPlans.{Entry, Any, Is, Stop, Keeps, Agree, Settled, AllSettled, Off}
+use Rattle.vc_gen.specs.BlockPlans.{Entry, Any, Is, Stop, Keeps, Agree, AllSettled, Off}
 use Rattle.vc_gen.specs.Items.{bool_sort, chosen}
 use Rattle.vc_gen.specs.Inputs.{items_at, choices_at, sorts_of_block, sorts_of_blocks, given_at, givens_at, Shaped}
 use Rattle.vc_gen.specs.Plans.{Follows, RowFits, AllOpen, OpenOff, settled_value, opens, OpenBehind, OpenAt}
@@ -119,7 +118,15 @@ put_row flat q L count n ns p plan mine fit keeps unsettled behind rest =
     }
   where
     at_place : length mine ≡ length (sorts_of_block flat q n) → (i : ℕ) → slice_get (p ∷ plan) i ≡ Some Stop → OpenAt flat q (n ∷ ns) i count (mine ++ rest.vs)
-    at_place size zero h = let e : p ≡ Stop = cc in record { pre = []; mine = mine; post = rest.vs; row_is = refl; before = refl; behind = behind e }
+    at_place size zero h = let e : p ≡ Stop = cc in record {
+      pre = [];
+      mine = mine;
+      post = rest.vs;
+      row_is = refl;
+      before = refl;
+      size = λ m at. let same : n ≡ m = cc in size ∙ ap (λ j. length (sorts_of_block flat q j)) same;
+      behind = behind e;
+    }
     at_place size (suc i) h =
         let z = rest.stops_are i h in
         record {
@@ -129,6 +136,7 @@ put_row flat q L count n ns p plan mine fit keeps unsettled behind rest =
           row_is = ap (λ r. mine ++ r) z.row_is ∙ sym (append_assoc mine z.pre (z.mine ++ z.post));
           before = length-append mine z.pre ∙ ap (λ j. j + length z.pre) size ∙ ap (λ j. length (sorts_of_block flat q n) + j) z.before
               ∙ sym (length-append (sorts_of_block flat q n) (sorts_of_blocks flat q (take i ns)));
+          size = z.size;
           behind = z.behind;
         }
 

@@ -1,13 +1,11 @@
 -- What a run takes of values and results has the shape that variables can give.
-use Rattle.std.proofs.Common.{◌≡◌, ℕ, zero, suc, ◌+◌, ◌-◌, ◌<◌, Bool, true, false, not, ◌&&◌, List, [], ◌∷◌, ◌++◌, map, length, take, drop, replicate, arith, sym, ◌∙◌, ap, refl, subst, append-nil, append_assoc, length-append}
-use Rattle.std.specs.Prelude.{Option, None, Some, slice_get, if◌then◌else◌, IsTrue}
-use Rattle.std.specs.Option.{option_and_then}
-use Rattle.hy_val.specs.Values.{is_on, has_sort}
+use Rattle.std.proofs.Common.{◌≡◌, ℕ, zero, suc, ◌+◌, Bool, true, false, List, [], ◌∷◌, ◌++◌, map, length, take, drop, arith, sym, ◌∙◌, ap, refl, append-nil, append_assoc, length-append}
+use Rattle.std.specs.Prelude.{Option, None, Some}
+use Rattle.hy_val.specs.Values.{has_sort}
 use Rattle.hy_val.specs.declared.atom.AtomKind.TheVariants.{Bool as BoolAtom}
 use Rattle.hy_val.specs.declared.sort.Sort.{Sort}
 use Rattle.hy_val.specs.declared.value.Value.{Value}
 use Rattle.hy_val.specs.declared.value.Value.TheVariants.{Atom as AtomValue}
-use Rattle.hy_val.specs.declared.expr.Env.{Env}
 use Rattle.hy_val.specs.declared.expr.Var.{Var}
 use Rattle.hy_val.specs.declared.expr.ExprNode.{ExprNode}
 use Rattle.flat_prog.specs.declared.block.FlatCmd.{FlatCmd}
@@ -16,18 +14,17 @@ use Rattle.flat_prog.specs.declared.block.FlatBlock.{FlatBlock}
 use Rattle.flat_prog.specs.declared.proc.FlatProc.{FlatProc}
 use Rattle.passive_form.specs.Limited.{Limited}
 use Rattle.passive_form.specs.Local.{State, alone, sort_of, sorted_as, result_fits, after_call, changed_sorts, targets_of, assigned, write, write_all, havoc, havoc_with, come_back, request, pass, pass_all}
-use Rattle.flat_prog.specs.Local.{Result, Ended, Broken, Request}
+use Rattle.flat_prog.specs.Local.{Result, Ended, Broken}
 use Rattle.hy_val.specs.Stores.{is_value_of, holds}
-use Rattle.vc_gen.specs.Fold.{Given, choice_count}
+use Rattle.vc_gen.specs.Fold.{choice_count}
 use Rattle.vc_gen.proofs.Frames.{choose_some, and_then_some}
 use Rattle.vc_gen.proofs.Complete.{Fine}
-use Rattle.vc_gen.proofs.Used.{Used}
 use Rattle.passive_form.specs.declared.Item.{Item}
-use Rattle.passive_form.specs.declared.Item.TheVariants.{Let, Zero, Free, Need, Check, Site}
+use Rattle.passive_form.specs.declared.Item.TheVariants.{Free, Need, Check, Site}
 use Rattle.passive_form.specs.Versions.{Cur}
 use Rattle.passive_form.specs.Making.{over_versions, lets, sort_or, frees, callee_outs, callee_changes, items_of, cur_after, next_after, items_all, entry_cur, entry_count, block_or}
 use Rattle.vc_gen.specs.Items.{bool_sort, chosen}
-use Rattle.vc_gen.specs.Inputs.{values_in, result_in, results_in, block_at, items_at, choices_at, Shaped}
+use Rattle.vc_gen.specs.Inputs.{values_in, results_in, block_at, items_at, Shaped}
 use Rattle.vc_gen.proofs.Joining.{chosen_append, sorts_both, and_first, and_second, and_two}
 
 -- from what is chosen for the items, these values and results are taken

@@ -1,13 +1,11 @@
 -- Values of a block that fails: up to the place that fails the run's, there what fails, and behind it zeros.
 use Rattle.vc_gen.proofs.Prefixes.{prefix_then, prefix_none}
-use Rattle.std.proofs.Common.{◌≡◌, ℕ, zero, suc, ◌+◌, Bool, true, false, not, ◌&&◌, ◌||◌, List, [], ◌∷◌, ◌++◌, map, length, sym, ◌∙◌, ap, refl, subst, append-nil, append_assoc, length-append, arith}
-use Rattle.std.specs.Prelude.{Option, None, Some, slice_get, if◌then◌else◌, IsTrue, take}
-use Rattle.std.specs.Option.{option_and_then}
+use Rattle.std.proofs.Common.{◌≡◌, ℕ, ◌+◌, Bool, true, false, not, ◌||◌, List, [], ◌∷◌, ◌++◌, map, length, sym, ◌∙◌, ap, refl, subst, append-nil, append_assoc, length-append, arith}
+use Rattle.std.specs.Prelude.{Option, None, Some, slice_get, if◌then◌else◌, take}
 use Rattle.hy_val.specs.declared.atom.AtomKind.TheVariants.{Bool as BoolAtom}
 use Rattle.hy_val.specs.declared.sort.Sort.{Sort}
 use Rattle.hy_val.specs.declared.value.Value.{Value}
 use Rattle.hy_val.specs.declared.value.Value.TheVariants.{Atom as AtomValue}
-use Rattle.hy_val.specs.declared.expr.Env.{Env}
 use Rattle.flat_prog.specs.declared.block.FlatCmd.{FlatCmd}
 use Rattle.flat_prog.specs.declared.block.FlatCmd.TheVariants.{Assign, Havoc, Assume, Assert, Call}
 use Rattle.flat_prog.specs.declared.block.FlatBlock.{FlatBlock}
@@ -22,18 +20,18 @@ use Rattle.vc_gen.proofs.Failures.{cancel_right}
 use Rattle.std.proofs.lemmas.List.{map-append}
 use Rattle.vc_gen.specs.Fold.{Given}
 use Rattle.vc_gen.specs.Breaking.{breaks_at, test_some, breaks}
-use Rattle.vc_gen.proofs.Frames.{and_then_some, framed, pass_frame}
+use Rattle.vc_gen.proofs.Frames.{and_then_some, pass_frame}
 use Rattle.vc_gen.proofs.Sound.{same_state}
-use Rattle.vc_gen.proofs.Used.{Used, pass_used}
+use Rattle.vc_gen.proofs.Used.{pass_used}
 use Rattle.passive_form.specs.declared.Item.{Item}
-use Rattle.passive_form.specs.declared.Item.TheVariants.{Let, Zero, Free, Need, Check, Site}
+use Rattle.passive_form.specs.declared.Item.TheVariants.{Check}
 use Rattle.passive_form.specs.Versions.{Cur}
 use Rattle.passive_form.specs.Making.{over_versions, callee_outs, items_of, cur_after, next_after, items_all, entry_cur, entry_count, block_or}
 use Rattle.vc_gen.specs.Items.{bool_sort, chosen, AreSorts}
 use Rattle.vc_gen.specs.Plans.{call_bit, settled_count}
 use Rattle.vc_gen.specs.Inputs.{values_in, results_in, block_at, items_at, choices_at, Shaped}
 use Rattle.vc_gen.proofs.Joining.{chosen_append, sorts_both}
-use Rattle.vc_gen.proofs.Shapes.{Part, pass_part}
+use Rattle.vc_gen.proofs.Shapes.{pass_part}
 use Rattle.vc_gen.proofs.Laying.{zeros, zeros_have, falses, falses_count}
 
 abbrev some : Result → Option Result

@@ -1,6 +1,5 @@
 -- The sites of a procedure have its callees' sorts.
-use Rattle.std.proofs.Common.{◌≡◌, ℕ, zero, suc, ◌+◌, Bool, true, false, List, [], ◌∷◌, ◌++◌, map, length, sym, ◌∙◌, ap, refl, subst}
-use Rattle.std.specs.Prelude.{Option, None, Some, slice_get}
+use Rattle.std.proofs.Common.{◌≡◌, ℕ, ◌+◌, Bool, List, [], ◌∷◌, ◌++◌, length, sym, refl, subst}
 use Rattle.hy_val.specs.declared.sort.Sort.{Sort}
 use Rattle.hy_val.specs.declared.expr.Var.{Var}
 use Rattle.hy_val.specs.declared.expr.ExprNode.{ExprNode}

@@ -1,7 +1,6 @@
 -- What is chosen for items that fit has sorts.
-use Rattle.std.proofs.Common.{◌≡◌, ℕ, zero, suc, ◌+◌, Bool, true, false, ◌||◌, List, [], ◌∷◌, ◌++◌, sym, ◌∙◌, ap, refl, subst}
-use Rattle.std.specs.Prelude.{Option, None, Some, nat_eq, slice_get, IsTrue}
-use Rattle.hy_val.specs.NodeSorts.{is_sort}
+use Rattle.std.proofs.Common.{◌≡◌, ℕ, Bool, true, false, ◌||◌, List, [], ◌∷◌, ◌++◌, sym, refl, subst}
+use Rattle.std.specs.Prelude.{Option, None, Some, nat_eq, slice_get}
 use Rattle.hy_val.specs.declared.sort.Sort.{Sort}
 use Rattle.flat_prog.specs.declared.block.FlatBlock.{FlatBlock}
 use Rattle.flat_prog.specs.declared.proc.FlatProc.{FlatProc}
@@ -11,7 +10,7 @@ use Rattle.vc_gen.proofs.Sound.{number_is}
 use Rattle.passive_form.specs.declared.Item.{Item}
 use Rattle.passive_form.specs.declared.Item.TheVariants.{Let, Zero, Free, Need, Check, Site}
 use Rattle.passive_form.specs.Making.{entry_cur, entry_count, items_all, block_or, passive_blocks}
-use Rattle.vc_gen.specs.Items.{made_by, chosen, AreSorts, ItemFits, ItemsFit}
+use Rattle.vc_gen.specs.Items.{made_by, chosen, AreSorts, ItemsFit}
 use Rattle.vc_gen.specs.Inputs.{items_at}
 use Rattle.vc_gen.specs.Fitting.{AllFit}
 

@@ -1,8 +1,7 @@
 -- From the values of an assignment to a run that ends.
-use Rattle.std.proofs.Common.{◌≡◌, ℕ, ◌+◌, ◌<◌, zero, suc, Bool, true, false, not, ◌&&◌, ◌||◌, List, [], ◌∷◌, ◌++◌, length, arith, sym, ◌∙◌, ap, refl, subst, inl, inr, append-nil}
-use Rattle.std.specs.Prelude.{Option, None, Some, nat_eq, if◌then◌else◌, slice_get, ◌⊎◌, option_and_then}
+use Rattle.std.proofs.Common.{◌≡◌, ℕ, Bool, true, false, ◌&&◌, List, [], ◌∷◌, ◌++◌, arith, sym, ◌∙◌, ap, refl, subst, inl, append-nil}
+use Rattle.std.specs.Prelude.{Option, None, Some, nat_eq, if◌then◌else◌, slice_get, option_and_then}
 use Rattle.std.proofs.lemmas.Bool.Decides.{nat_tests}
-use Rattle.std.proofs.lemmas.Grind.{common_steps}
 use Rattle.hy_val.specs.declared.value.Value.{Value}
 use Rattle.hy_val.specs.declared.expr.Env.{Env}
 use Rattle.flat_prog.specs.declared.block.FlatNext.{FlatNext}
@@ -10,12 +9,12 @@ use Rattle.flat_prog.specs.declared.block.FlatNext.TheVariants.{Goto, Return}
 use Rattle.flat_prog.specs.declared.block.FlatBlock.{FlatBlock}
 use Rattle.flat_prog.specs.declared.proc.FlatProc.{FlatProc}
 use Rattle.passive_form.specs.Limited.{Limited}
-use Rattle.passive_form.specs.Local.{State, alone, LocalEnds, walk, pass_all, cmds_of, is_target}
-use Rattle.flat_prog.specs.Local.{Request, Result, Track, outs_of}
+use Rattle.passive_form.specs.Local.{State, LocalEnds, walk, pass_all, cmds_of, is_target}
+use Rattle.flat_prog.specs.Local.{Request, Result, outs_of}
 use Rattle.flat_prog.specs.Shape.{place_at, place_of}
-use Rattle.vc_gen.specs.Fold.{Edge, Given, reached, entered, others, through, closed, is_nil, fan, out_next, out_of, passed, step, fold, Dead, One, ends, end_env}
+use Rattle.vc_gen.specs.Fold.{Edge, Given, reached, others, through, closed, is_nil, fan, out_next, out_of, passed, step, fold, Dead, One, ends, end_env}
 use Rattle.vc_gen.proofs.Frames.{framed, pass_all_frame, walk_frame}
-use Rattle.vc_gen.proofs.Edges.{dead_append, dead_out, dead_passed, unreached_passed, dead_fold, dead_ends, one_reached, one_entered, one_dead, one_pass, one_unreached, one_left, one_right, one_fan, end_step, end_fold, one_ends, one_end_env, one_no_end}
+use Rattle.vc_gen.proofs.Edges.{dead_append, dead_out, dead_fold, dead_ends, one_reached, one_entered, one_dead, one_right, one_fan, end_step, end_fold, one_end_env, one_no_end}
 
 -- a run from a block that ends
 pub record Going (flat : Limited) (q : FlatProc) (b : ℕ) (env over : Env) : Type 0 where

@@ -1,13 +1,13 @@
 -- A block's terms, under an assignment, do with the waiting edges what the block does.
-use Rattle.std.proofs.Common.{◌≡◌, ℕ, zero, suc, ◌+◌, ◌-◌, ◌<◌, Bool, true, false, not, ◌&&◌, ◌||◌, List, [], ◌∷◌, ◌++◌, map, length, take, drop, arith, sym, ◌∙◌, ap, refl, subst, append-nil, append_assoc, length-append}
-use Rattle.std.specs.Prelude.{Option, None, Some, slice_get, slice_index, slice_index_or, if◌then◌else◌, IsTrue}
+use Rattle.std.proofs.Common.{◌≡◌, ℕ, zero, suc, ◌+◌, Bool, true, false, not, ◌&&◌, List, [], ◌∷◌, ◌++◌, map, length, take, drop, arith, sym, ◌∙◌, ap, refl, subst, append_assoc, length-append}
+use Rattle.std.specs.Prelude.{Option, Some, slice_get, slice_index, if◌then◌else◌, IsTrue}
 use Rattle.std.proofs.lemmas.List.{length-map}
 use Rattle.hy_val.specs.Exprs.{eval_by}
-use Rattle.hy_val.specs.Values.{at, is_on}
+use Rattle.hy_val.specs.Values.{is_on}
 use Rattle.hy_val.specs.declared.sort.Sort.{Sort}
 use Rattle.hy_val.specs.declared.value.Value.{Value}
 use Rattle.hy_val.specs.declared.expr.Env.{Env}
-use Rattle.hy_term.specs.Meaning.{values, value, fits}
+use Rattle.hy_term.specs.Meaning.{value, fits}
 use Rattle.hy_term.specs.Variables.{reads}
 use Rattle.hy_term.specs.declared.node.TermNode.{TermNode}
 use Rattle.flat_prog.specs.declared.block.FlatBlock.{FlatBlock}
@@ -18,16 +18,16 @@ use Rattle.vc_gen.specs.Fold.{Edge, Given, reached, entered, others, out_next, s
 use Rattle.vc_gen.specs.Alike.{Alike}
 use Rattle.passive_form.specs.declared.Item.{Item}
 use Rattle.passive_form.specs.declared.Item.TheVariants.{Let, Zero, Free, Need, Check, Site}
-use Rattle.passive_form.specs.Versions.{Cur, look_at, env_of, from, outs_from, after_from, Defined, hold, taken_values, site_result, taken_results}
+use Rattle.passive_form.specs.Versions.{look_at, env_of, from, outs_from, after_from, hold, taken_values, site_result, taken_results}
 use Rattle.flat_prog.specs.Program.{variables_of}
 use Rattle.passive_form.specs.Making.{entry_cur, entry_count, items_all, cur_end, block_or}
 use Rattle.passive_form.specs.Laws.{cmds_there}
 use Rattle.vc_gen.proofs.BlockLaws.{given_by, block_law}
 use Rattle.vc_gen.specs.declared.parts.Draft.{Draft}
-use Rattle.vc_gen.specs.Standing.{Later, AreOf}
-use Rattle.vc_gen.specs.Items.{bool_sort, chosen, input_of, inputs, on_after, on_end}
+use Rattle.vc_gen.specs.Standing.{AreOf}
+use Rattle.vc_gen.specs.Items.{bool_sort, chosen, inputs, on_end}
 use Rattle.vc_gen.specs.Emit.{Meant, Step, terms_of}
-use Rattle.vc_gen.specs.Inputs.{values_in, result_in, results_in, block_at, items_at, choices_at, given_at}
+use Rattle.vc_gen.specs.Inputs.{values_in, result_in, results_in, items_at, choices_at, given_at}
 use Rattle.vc_gen.specs.Instance.{all_at}
 use Rattle.vc_gen.proofs.Growth.{are_count, map_later}
 use Rattle.vc_gen.proofs.Calling.{span_values}

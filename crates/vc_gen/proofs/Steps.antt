@@ -1,47 +1,36 @@
 -- One item becomes terms.
-use Rattle.std.proofs.Common.{◌≡◌, ℕ, zero, suc, ◌+◌, ◌-◌, ◌<◌, Bool, true, false, not, ◌&&◌, ◌||◌, List, [], ◌∷◌, ◌++◌, map, length, arith, sym, ◌∙◌, ap, refl, subst, append-nil, append_assoc, length-append}
+use Rattle.std.proofs.Common.{◌≡◌, ℕ, Bool, true, false, not, ◌&&◌, ◌||◌, List, [], ◌∷◌, ◌++◌, length, arith, sym, ◌∙◌, ap, refl, subst, append-nil}
 use Rattle.std.specs.Prelude.{Option, None, Some, slice_get, IsTrue, IsSome}
 use Rattle.std.specs.Option.{option_and_then, option_map}
 use Rattle.std.proofs.lemmas.Option.{slice_get-map}
 use Rattle.hy_val.specs.Exprs.{eval_by}
 use Rattle.hy_val.specs.Building.{whole_sort}
 use Rattle.hy_val.specs.Laws.{AgreeOn}
-use Rattle.hy_val.specs.NodeSorts.{is_sort}
-use Rattle.hy_val.specs.Sorts.{scalar_of, has_scalar, zero_of_scalar}
 use Rattle.hy_val.specs.Values.{default, at, is_on, has_sort, zero_of}
 use Rattle.hy_val.specs.declared.sort.Sort.{Sort}
-use Rattle.hy_val.specs.declared.sort.Scalar.{Scalar}
-use Rattle.hy_val.specs.declared.sort.ScalarKind.TheVariants.{Bool as BoolSort, Bv as BvSort}
-use Rattle.hy_val.specs.declared.sort.SortKind.TheVariants.{Scalar as ScalarSort, Map as MapSort}
 use Rattle.hy_val.specs.declared.value.Value.{Value}
-use Rattle.hy_val.specs.declared.value.Value.TheVariants.{Atom as AtomValue, Map as MapValue}
 use Rattle.hy_val.specs.declared.expr.Var.{Var}
 use Rattle.hy_val.specs.declared.expr.Var.TheVariants.{Const, Global, Local}
 use Rattle.hy_val.specs.declared.expr.ExprNode.{ExprNode}
 use Rattle.hy_val.specs.declared.expr.ExprNode.TheVariants.{Lit, Var as Read, Unary, Binary, If, Select, Store}
-use Rattle.hy_val.proofs.Lawful.{only_variables, keep_sorts}
+use Rattle.hy_val.proofs.Lawful.{only_variables}
 use Rattle.hy_val.proofs.Lists.{slice_get-seam}
-use Rattle.hy_term.specs.TermSorts.{sorts, sort_at, sort_behind}
-use Rattle.hy_term.specs.Meaning.{node_value, values, value, node_fits, fits}
-use Rattle.hy_term.specs.Variables.{node_below, below, reads}
+use Rattle.hy_term.specs.TermSorts.{sort_at}
+use Rattle.hy_term.specs.Meaning.{values, value}
+use Rattle.hy_term.specs.Variables.{below}
 use Rattle.hy_term.specs.declared.node.TermNode.{TermNode}
-use Rattle.hy_term.proofs.Growing.{value-new}
-use Rattle.passive_form.specs.Local.{sorted_as}
-use Rattle.passive_form.specs.declared.Item.{Item}
-use Rattle.passive_form.specs.declared.Item.TheVariants.{Let, Zero, Free, Need, Check, Site}
+use Rattle.passive_form.specs.declared.Item.TheVariants.{Let, Zero, Need, Check}
 use Rattle.passive_form.specs.Making.{sort_or}
-use Rattle.passive_form.specs.Versions.{look_at, Defined}
+use Rattle.passive_form.specs.Versions.{look_at}
 use Rattle.vc_gen.specs.declared.parts.Draft.{Draft}
-use Rattle.vc_gen.specs.declared.parts.SiteTerm.{SiteTerm}
 use Rattle.vc_gen.specs.declared.parts.FailTerm.{FailTerm}
 use Rattle.vc_gen.specs.Standing.{Later, Plain, AreOf, variables_in}
-use Rattle.vc_gen.specs.Translate.{term_of, value_of, look_terms, NodeReads, ReadsFit, Says as ExprSays}
-use Rattle.vc_gen.specs.Items.{bool_sort, sort_in, ReadsIn, AllRead, AllThere, AreSorts, ItemFits, made, chosen, FailMeans, inputs, on_end, fails_in, sites_in, asserts_in}
-use Rattle.vc_gen.specs.Emit.{Stands, ItemReady, Meant, Fresh, Bit, IsBoth, IsNot, Passed, zero_node, fail_value, Says, Step}
-use Rattle.vc_gen.proofs.Growth.{later_same, later_push, later_then, plain_push, plain_then, value_later, sort_later, sort_added, sort_within, are_later, are_append, are_count, are_get, map_later}
-use Rattle.vc_gen.proofs.Joining.{meant_back, and_first, fits_before}
+use Rattle.vc_gen.specs.Translate.{term_of, value_of, look_terms, ReadsFit, Says as ExprSays}
+use Rattle.vc_gen.specs.Items.{bool_sort, sort_in, ReadsIn, FailMeans}
+use Rattle.vc_gen.specs.Emit.{ItemReady, Meant, IsBoth, IsNot, Passed, Step}
+use Rattle.vc_gen.proofs.Growth.{later_then, sort_later, are_count, are_get}
+use Rattle.vc_gen.proofs.Joining.{meant_back, fits_before}
 use Rattle.vc_gen.proofs.Passes.{bit_later}
-use Rattle.vc_gen.proofs.Pushing.{bool_at}
 
 -- ---- expressions
 
@@ -136,6 +125,10 @@ module _ (cs : List ℕ) (block : ℕ) (old : List TermNode) (d : Draft) where
         asserts_there = tt;
         asserts_behind = sym (append-nil d.asserts);
         checked = refl;
+        values = [];
+        values_there = tt;
+        values_behind = sym (append-nil d.values);
+        taken = λ a consts vals f m. refl;
         says = λ a consts vals f m.
             let back = meant_back a old new cs d.versions (t ∷ []) vs r.csorts r.vsorts consts vals later st.consts st.versions is m in
             record {
@@ -175,6 +168,10 @@ module _ (cs : List ℕ) (block : ℕ) (old : List TermNode) (d : Draft) where
         asserts_there = tt;
         asserts_behind = sym (append-nil d.asserts);
         checked = refl;
+        values = [];
+        values_there = tt;
+        values_behind = sym (append-nil d.values);
+        taken = λ a consts vals f m. refl;
         says = λ a consts vals f m. record {
           defined = (m.each v t (ap (λ xs. slice_get xs v) is ∙ pushed_at d.versions t v (length r.vsorts) r.fit.0 (are_count old d.versions r.vsorts st.versions)) ∙ zero_is a, tt);
           on = bit_later old new a d.cond later st.cond;
@@ -214,6 +211,10 @@ module _ (cs : List ℕ) (block : ℕ) (old : List TermNode) (d : Draft) where
         asserts_there = tt;
         asserts_behind = sym (append-nil d.asserts);
         checked = refl;
+        values = [];
+        values_there = tt;
+        values_behind = sym (append-nil d.values);
+        taken = λ a consts vals f m. refl;
         says = λ a consts vals f m.
             let back = meant_back a old new cs d.versions [] d.versions r.csorts r.vsorts consts vals later st.consts st.versions (sym (append-nil d.versions)) m in
             record {
@@ -264,6 +265,10 @@ module _ (cs : List ℕ) (block : ℕ) (old : List TermNode) (d : Draft) where
         asserts_there = (w.sort, tt);
         asserts_behind = is ∙ ap (λ xs. xs ++ record { block = block; position = p; node = t } ∷ []) same_asserts;
         checked = refl;
+        values = [];
+        values_there = tt;
+        values_behind = ap (λ (x : Draft). x.values) w.draft_is ∙ sym (append-nil d.values);
+        taken = λ a consts vals f m. refl;
         says = λ a consts vals f m.
             let f2 = fits_before a m2 new l3 f in
             let f1 = fits_before a m1 m2 l2 f2 in

@@ -1,51 +1,43 @@
 -- What a run that fails settles.
 use Rattle.vc_gen.proofs.Prefixes.{prefix_then}
-use Rattle.std.proofs.Common.{◌≡◌, ℕ, zero, suc, ◌+◌, ◌<◌, Bool, true, false, ◌&&◌, List, [], ◌∷◌, ◌++◌, map, length, arith, sym, ◌∙◌, ap, refl, subst, inl, inr, replicate, append_assoc, length-append}
-use Rattle.std.specs.Prelude.{Option, None, Some, slice_get, if◌then◌else◌, IsTrue, IsSome, take}
-use Rattle.std.specs.Option.{option_and_then}
-use Rattle.hy_val.specs.Values.{at, is_on}
+use Rattle.std.proofs.Common.{◌≡◌, ℕ, ◌+◌, true, List, [], ◌∷◌, ◌++◌, map, length, sym, ◌∙◌, ap, refl, subst, replicate, append_assoc, length-append}
+use Rattle.std.specs.Prelude.{Option, Some, slice_get, IsTrue, take}
+use Rattle.hy_val.specs.Values.{at}
 use Rattle.hy_val.specs.declared.sort.Sort.{Sort}
 use Rattle.hy_val.specs.declared.value.Value.{Value}
 use Rattle.hy_val.specs.declared.expr.Env.{Env}
-use Rattle.hy_term.specs.Meaning.{values, value, fits, extended}
+use Rattle.hy_term.specs.Meaning.{values}
 use Rattle.hy_term.specs.Variables.{below, reads}
 use Rattle.hy_term.specs.declared.node.TermNode.{TermNode}
-use Rattle.hy_term.proofs.Numbering.{new_variables}
 use Rattle.flat_prog.specs.declared.block.FlatBlock.{FlatBlock}
 use Rattle.flat_prog.specs.declared.proc.FlatProc.{FlatProc}
 use Rattle.passive_form.specs.Limited.{Limited}
-use Rattle.flat_prog.specs.Local.{Track, Result, Request, Broken}
-use Rattle.passive_form.specs.Local.{State, alone, sorted_as, start, walk, pass_all, cmds_of, is_target, LocalFails}
-use Rattle.flat_prog.specs.Shape.{place_at}
-use Rattle.vc_gen.specs.Fold.{Edge, Given, Seen, seen, live_edges, last_of}
+use Rattle.flat_prog.specs.Local.{Request, Broken}
+use Rattle.passive_form.specs.Local.{State, alone, start, walk}
+use Rattle.vc_gen.specs.Fold.{Given, seen, live_edges, last_of}
 use Rattle.flat_prog.specs.Ordering.{is_in, Onward}
-use Rattle.vc_gen.specs.Breaking.{breaks, breaks_seen, any_breaks}
-use Rattle.vc_gen.proofs.Frames.{and_then_some}
-use Rattle.vc_gen.proofs.Complete.{Each, some_pair, if_some}
-use Rattle.vc_gen.proofs.Arrives.{Last, arrives}
-use Rattle.vc_gen.proofs.Failures.{Failed, failed, failed_run}
-use Rattle.vc_gen.specs.BlockPlans.{recast}
-use Rattle.vc_gen.proofs.Recasting.{fails_again}
-use Rattle.vc_gen.specs.Passages.{passages, on_results, Passage, all_passages, on_requests, blame, blamed, along}
-use Rattle.passive_form.specs.Making.{block_or, entry_cur, entry_count}
+use Rattle.vc_gen.specs.Breaking.{breaks, any_breaks}
+use Rattle.vc_gen.proofs.Arrives.{Last}
+use Rattle.vc_gen.proofs.Failures.{failed}
+use Rattle.vc_gen.specs.Passages.{passages, on_results, all_passages, on_requests, blame, blamed, along}
+use Rattle.passive_form.specs.Making.{entry_cur, entry_count}
 use Rattle.vc_gen.specs.declared.parts.Wait.{Wait}
 use Rattle.vc_gen.specs.declared.parts.EdgeTerm.{EdgeTerm}
 use Rattle.vc_gen.specs.declared.parts.SiteTerm.{SiteTerm}
 use Rattle.vc_gen.specs.declared.parts.Actuals.{Actuals}
-use Rattle.vc_gen.specs.Standing.{Later, AreOf}
-use Rattle.vc_gen.specs.Items.{chosen, AreSorts, SiteMeans, bool_sort}
+use Rattle.vc_gen.specs.Standing.{AreOf}
+use Rattle.vc_gen.specs.Items.{chosen, AreSorts, bool_sort}
 use Rattle.vc_gen.specs.Emit.{site_value}
 use Rattle.vc_gen.specs.Exact.{given_back, SameCalls}
-use Rattle.vc_gen.specs.Inputs.{block_at, items_at, sorts_of_blocks, givens_at, Shaped, values_in, results_in, choices_at, sorts_of_block, given_at}
-use Rattle.vc_gen.specs.Instance.{all_at, start_sorts, room, first_edge, Built, FailsFrom, FailsSound, FailAnswers, FailsComplete}
+use Rattle.vc_gen.specs.Inputs.{items_at, givens_at, Shaped, values_in, results_in, choices_at, sorts_of_block}
+use Rattle.vc_gen.specs.Instance.{all_at, start_sorts, first_edge, Built}
 use Rattle.vc_gen.proofs.Growth.{map_later}
-use Rattle.vc_gen.proofs.Joining.{sorts_both, reads_append}
+use Rattle.vc_gen.proofs.Joining.{reads_append}
 use Rattle.vc_gen.proofs.Shapes.{shaped_used, length_have}
-use Rattle.vc_gen.proofs.Laying.{laid, dull, dull_shaped, read_split}
-use Rattle.vc_gen.proofs.Ends.{first_one, started, some_state, extended_old, same_requests, same_results, some_lists, same_walk}
-use Rattle.vc_gen.proofs.Shards.{broken_block, BrokenBlock, broken_front}
+use Rattle.vc_gen.proofs.Ends.{first_one, started, some_state, same_requests, same_results, some_lists, same_walk}
+use Rattle.vc_gen.proofs.Shards.{BrokenBlock, broken_front}
 use Rattle.vc_gen.proofs.BlockPlanning.{stopped}
-use Rattle.vc_gen.specs.Plans.{Follows, RowFits, FailPlan, FailsPlanned, settled_count, settled_value, opens}
+use Rattle.vc_gen.specs.Plans.{RowFits, FailsPlanned, settled_count, settled_value, opens}
 use Rattle.vc_gen.proofs.Rows.{StopRow, laid_plan, old_same, opens_fit, settled_fit, fits_both, follows_split, settled_read}
 use Rattle.vc_gen.proofs.Faults.{fused, walk_last}
 

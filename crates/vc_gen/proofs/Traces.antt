@@ -1,8 +1,8 @@
 -- The run that ends passes exactly the live edges and the calls of the blocks that are reached.
 use Rattle.std.proofs.lemmas.Bool.Decides.{nat_tests}
 use Rattle.flat_prog.specs.Sites.{calls_of, calls_at}
-use Rattle.std.proofs.Common.{◌≡◌, ℕ, ◌+◌, zero, suc, Bool, true, false, not, ◌&&◌, ◌||◌, List, [], ◌∷◌, ◌++◌, map, length, arith, sym, ◌∙◌, ap, refl, subst, inl, inr, append-nil, append_assoc}
-use Rattle.std.specs.Prelude.{Option, None, Some, nat_eq, if◌then◌else◌, slice_get, ◌⊎◌}
+use Rattle.std.proofs.Common.{◌≡◌, ℕ, ◌+◌, Bool, true, false, List, [], ◌∷◌, ◌++◌, map, length, arith, sym, ◌∙◌, ap, refl, subst, inl, append-nil, append_assoc}
+use Rattle.std.specs.Prelude.{Option, None, Some, nat_eq, if◌then◌else◌, slice_get}
 use Rattle.std.proofs.lemmas.List.{map-append}
 use Rattle.hy_val.specs.declared.value.Value.{Value}
 use Rattle.hy_val.specs.declared.expr.Env.{Env}
@@ -18,11 +18,11 @@ use Rattle.passive_form.specs.Local.{State, alone, request, sort_of, write, writ
 use Rattle.flat_prog.specs.Local.{Result, Ended, Broken, Request, edges_of}
 use Rattle.hy_val.specs.Stores.{is_value_of, holds}
 use Rattle.flat_prog.specs.Shape.{place_of}
-use Rattle.vc_gen.specs.Fold.{Edge, Given, Seen, seen, seen_at, reached, entered, others, closed, through, fan, out_next, out_of, passed, step, fold, ends, end_env, edges_next, edges_out, live_edges, Dead, One}
+use Rattle.vc_gen.specs.Fold.{Edge, Given, seen, seen_at, reached, entered, others, closed, through, fan, out_next, out_of, passed, step, fold, ends, end_env, edges_next, edges_out, live_edges, Dead, One}
 use Rattle.vc_gen.specs.Passages.{Passage, next_result, passage_at, behind, passages, passages_seen, all_passages, on_requests, on_results, places_from, places_at, places_seen, all_places, block_places, path_places, seen_values, along}
 use Rattle.vc_gen.proofs.Frames.{choose_some, and_then_some}
-use Rattle.vc_gen.proofs.Edges.{dead_append, dead_out, dead_reached, dead_step, one_reached, one_entered, one_dead, one_unreached, one_right, end_step, end_fold, one_end_env, one_no_end}
-use Rattle.vc_gen.proofs.Reach.{edges_off, Taken, taken}
+use Rattle.vc_gen.proofs.Edges.{dead_append, dead_out, one_reached, one_entered, one_dead, one_unreached, one_right, end_step, end_fold, one_end_env, one_no_end}
+use Rattle.vc_gen.proofs.Reach.{edges_off, taken}
 use Rattle.vc_gen.proofs.Sound.{Going, returns, goes, closed_is, dead_end, no_end, number_is}
 
 -- ---- what a block passes

@@ -1,8 +1,7 @@
 -- What commands take of the values and results, and that they do the same with these alone.
-use Rattle.std.proofs.Common.{◌≡◌, ℕ, ◌+◌, Bool, true, false, if◌then◌else◌, List, [], ◌∷◌, ◌++◌, map, length, arith, sym, ◌∙◌, ap, refl, subst, append_assoc, append-nil}
+use Rattle.std.proofs.Common.{◌≡◌, ℕ, Bool, if◌then◌else◌, List, [], ◌∷◌, ◌++◌, sym, ◌∙◌, ap, refl, append_assoc, append-nil}
 use Rattle.std.specs.Prelude.{Option, None, Some, option_and_then}
 use Rattle.hy_val.specs.declared.value.Value.{Value}
-use Rattle.hy_val.specs.declared.expr.Env.{Env}
 use Rattle.hy_val.specs.declared.expr.Var.{Var}
 use Rattle.hy_val.specs.declared.expr.ExprNode.{ExprNode}
 use Rattle.flat_prog.specs.declared.block.FlatCmd.{FlatCmd}

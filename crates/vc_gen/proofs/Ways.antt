@@ -1,13 +1,13 @@
 -- Ways part, and edges become terms.
 use Rattle.vc_gen.proofs.Pushing.{fresh_numbers}
-use Rattle.std.proofs.Common.{◌≡◌, ℕ, zero, suc, ◌+◌, ◌-◌, ◌<◌, ◌≤◌, Bool, true, false, not, ◌&&◌, List, [], ◌∷◌, ◌++◌, map, length, drop, arith, sym, ◌∙◌, ap, refl, subst, append-nil, append_assoc, length-append}
-use Rattle.std.specs.Prelude.{Option, None, Some, slice_get, slice_index, slice_index_or, IsTrue, IsSome}
+use Rattle.std.proofs.Common.{◌≡◌, ℕ, ◌+◌, true, not, ◌&&◌, List, [], ◌∷◌, ◌++◌, map, sym, ◌∙◌, ap, refl, subst}
+use Rattle.std.specs.Prelude.{Some, IsTrue}
 use Rattle.hy_val.specs.Values.{at, is_on}
 use Rattle.hy_val.specs.declared.sort.Sort.{Sort}
 use Rattle.hy_val.specs.declared.value.Value.{Value}
-use Rattle.hy_term.specs.TermSorts.{sorts, sort_at}
+use Rattle.hy_term.specs.TermSorts.{sort_at}
 use Rattle.hy_term.specs.Meaning.{values, value, fits}
-use Rattle.hy_term.specs.Variables.{below, reads}
+use Rattle.hy_term.specs.Variables.{below}
 use Rattle.hy_term.specs.declared.node.TermNode.{TermNode}
 use Rattle.passive_form.specs.Local.{sorted_as}
 use Rattle.vc_gen.specs.declared.parts.Draft.{Draft}
@@ -15,7 +15,7 @@ use Rattle.vc_gen.specs.Standing.{Later, Plain, AreOf, variables_in}
 use Rattle.vc_gen.specs.Items.{bool_sort}
 use Rattle.vc_gen.specs.Emit.{IsBoth, IsNot, Fresh}
 use Rattle.vc_gen.specs.Edges.{Parted, Framed}
-use Rattle.vc_gen.proofs.Growth.{later_then, plain_then, sort_later}
+use Rattle.vc_gen.proofs.Growth.{later_then, sort_later}
 use Rattle.vc_gen.proofs.Joining.{fits_before}
 use Rattle.vc_gen.proofs.Passes.{bit_later}
 use Rattle.vc_gen.proofs.Zeros.{cancel}

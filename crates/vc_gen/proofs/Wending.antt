@@ -3,14 +3,14 @@ use Rattle.flat_prog.specs.Sites.{numbers_from}
 use Rattle.vc_gen.proofs.Numbers.{numbers_then}
 use Rattle.vc_gen.proofs.Traces.{no_places}
 use Rattle.std.proofs.Common.{◌≡◌, ℕ, zero, suc, ◌+◌, ◌<◌, ◌≤◌, Bool, true, false, ◌||◌, List, [], ◌∷◌, ◌++◌, map, length, take, arith, sym, ◌∙◌, ap, refl, subst, inr, append-nil, append_assoc, length-append}
-use Rattle.std.specs.Prelude.{Option, None, Some, slice_get, slice_index, slice_index_or, IsTrue, IsSome}
+use Rattle.std.specs.Prelude.{Option, None, Some, slice_get, slice_index_or, if◌then◌else◌}
 use Rattle.std.proofs.lemmas.List.{map-append}
 use Rattle.hy_val.specs.Values.{is_on}
 use Rattle.hy_val.specs.declared.sort.Sort.{Sort}
 use Rattle.hy_val.specs.declared.value.Value.{Value}
 use Rattle.hy_val.specs.declared.expr.Env.{Env}
-use Rattle.hy_term.specs.Meaning.{value, fits}
-use Rattle.hy_term.specs.Variables.{below, reads}
+use Rattle.hy_term.specs.Meaning.{value}
+use Rattle.hy_term.specs.Variables.{reads}
 use Rattle.hy_term.specs.declared.node.TermNode.{TermNode}
 use Rattle.flat_prog.specs.declared.block.FlatBlock.{FlatBlock}
 use Rattle.flat_prog.specs.declared.proc.FlatProc.{FlatProc}
@@ -19,7 +19,7 @@ use Rattle.flat_prog.specs.declared.block.FlatCmd.{FlatCmd}
 use Rattle.flat_prog.specs.declared.block.FlatCmd.TheVariants.{Assign, Havoc, Assume, Assert, Call}
 use Rattle.passive_form.specs.Local.{State, alone, sorted_as, pass, cmds_of}
 use Rattle.vc_gen.specs.Passages.{Passage, passage_at, behind, passages, passages_seen, all_passages, places_at, places_seen, all_places}
-use Rattle.vc_gen.specs.Fold.{Edge, Given, Seen, seen_at, seen, reached, entered, step, fold, live_edges}
+use Rattle.vc_gen.specs.Fold.{Edge, Given, seen_at, seen, reached, entered, fold, live_edges}
 use Rattle.vc_gen.specs.Breaking.{breaks_seen, any_breaks}
 use Rattle.vc_gen.specs.Alike.{Alike}
 use Rattle.vc_gen.proofs.Alikes.{alike_same, alike_reached, alike_entered}
@@ -35,11 +35,11 @@ use Rattle.vc_gen.specs.declared.parts.EdgeTerm.{EdgeTerm}
 use Rattle.vc_gen.specs.Items.{SiteMeans}
 use Rattle.vc_gen.specs.Emit.{site_value}
 use Rattle.vc_gen.specs.Exact.{true_edges, SameCalls, true_sites}
-use Rattle.vc_gen.specs.Standing.{Later, AreOf, variables_in}
+use Rattle.vc_gen.specs.Standing.{variables_in}
 use Rattle.vc_gen.specs.Inputs.{sorts_of_block, sorts_of_blocks, given_at, givens_at}
 use Rattle.vc_gen.specs.Instance.{all_at, edges_at}
 use Rattle.vc_gen.specs.Fitting.{BlockFits, AllFit, block_sorts, blocks_sorts}
-use Rattle.vc_gen.specs.Flowing.{Stage, BlockReady, BlockSays, BlockDone, WentSays, FlowReady, Went, WentAll}
+use Rattle.vc_gen.specs.Flowing.{BlockReady, BlockDone, WentSays, FlowReady, Went, WentAll}
 use Rattle.vc_gen.proofs.Looking.{take_at, take_all}
 use Rattle.vc_gen.proofs.Growth.{later_same, later_then}
 use Rattle.vc_gen.proofs.Joining.{sites_later, sites_stay, sites_there_append, fits_before, reads_append, length_reads, sorts_left, sorts_right, fails_stay, fails_there_append}
@@ -53,6 +53,9 @@ use Rattle.vc_gen.proofs.Counting.{counted_later, counted_both}
 use Rattle.vc_gen.proofs.Singling.{count_push}
 use Rattle.vc_gen.proofs.Asking.{asked_later, asked_both}
 use Rattle.vc_gen.proofs.Signing.{signed_later, signed_both}
+use Rattle.vc_gen.specs.Taken.{true_values, values_on, values_seen, all_values}
+use Rattle.vc_gen.proofs.Takes.{takes_push}
+use Rattle.vc_gen.proofs.Taking.{values_later, values_stay, values_there, values_both}
 
 pub fit_at : (csorts gsorts lsorts : List Sort) (bs : List PassiveBlock) (i : ℕ) (x : PassiveBlock) → AllFit csorts gsorts lsorts bs → i < length bs → x ≡ slice_index_or bs i x → BlockFits csorts gsorts lsorts x
 fit_at csorts gsorts lsorts bs i x h l is = subst (λ (y : PassiveBlock). BlockFits csorts gsorts lsorts y) (sym is) (go bs i x h l)
@@ -86,6 +89,9 @@ went_start cs spare old d edges first bs r = record {
   asserts_are = sym (append-nil d.asserts);
   asserts_there = tt;
   checked = refl;
+  vals = [];
+  vals_are = sym (append-nil d.values);
+  vals_there = tt;
   next = omega arith;
   numbers = sym (append-nil (variables_in old));
   fit = λ a f h. f;
@@ -96,6 +102,7 @@ went_start cs spare old d edges first bs r = record {
     edges = λ a dead f. refl;
     calls = λ a dead f. tt;
     places = λ a dead f. refl;
+    values = λ a dead f. refl;
     single = λ a dead f. refl;
     signed = tt;
     asked = λ sorted. tt;
@@ -203,6 +210,17 @@ alike_places flat q d g es fs h =
     by true e = ap (λ (v : Env). places_at g.number 0 (passages flat q (cmds_of (slice_get q.blocks g.number)) true (alone v g.values g.results []))) (e refl)
     by false e = no_places flat q g.number 0 (cmds_of (slice_get q.blocks g.number)) (alone (entered g.number d es) g.values g.results []) ∙ sym (no_places flat q g.number 0 (cmds_of (slice_get q.blocks g.number)) (alone (entered g.number d fs) g.values g.results []))
 
+alike_values : (flat : Limited) (q : FlatProc) (d : Env) (g : Given) (es fs : List Edge) → Alike es fs → values_seen flat q (seen_at d g es) ≡ values_seen flat q (seen_at d g fs)
+alike_values flat q d g es fs h =
+    ap (λ r. if r then values_on flat q (cmds_of (slice_get q.blocks g.number)) (alone (entered g.number d es) g.values g.results []) else []) (alike_reached g.number es fs h)
+    ∙ by (reached g.number fs) (λ k. alike_entered g.number d d es fs h (inr k))
+  where
+    by : (r : Bool) → (r ≡ true → entered g.number d es ≡ entered g.number d fs) →
+        (if r then values_on flat q (cmds_of (slice_get q.blocks g.number)) (alone (entered g.number d es) g.values g.results []) else [])
+        ≡ (if r then values_on flat q (cmds_of (slice_get q.blocks g.number)) (alone (entered g.number d fs) g.values g.results []) else [])
+    by true e = ap (λ (v : Env). values_on flat q (cmds_of (slice_get q.blocks g.number)) (alone v g.values g.results [])) (e refl)
+    by false e = refl
+
 pub went_next : (cs : List ℕ) (spare : Wait) (old mid new : List TermNode) (d m e : Draft) (edges edges1 edges2 : List EdgeTerm) (first waits left : List Wait) (bs : List PassiveBlock) (i : ℕ) (x : PassiveBlock) → i < length bs → x ≡ slice_index_or bs i x →
     Went cs spare old d edges first bs i mid m edges1 waits → BlockDone cs spare mid m waits edges1 x new e edges2 left → Went cs spare old d edges first bs (i + 1) new e edges2 left
 went_next cs spare old mid new d m e edges edges1 edges2 first waits left bs i x l is h k =
@@ -223,6 +241,9 @@ went_next cs spare old mid new d m e edges edges1 edges2 first waits left bs i x
       asserts = h.asserts ++ k.asserts;
       asserts_are = k.asserts_are ∙ ap (λ r. r ++ k.asserts) h.asserts_are ∙ append_assoc d.asserts h.asserts k.asserts;
       asserts_there = fails_there_append new h.asserts k.asserts (fails_stay mid new h.asserts k.later h.asserts_there) k.asserts_there;
+      vals = h.vals ++ k.vals;
+      vals_are = k.vals_are ∙ ap (λ r. r ++ k.vals) h.vals_are ∙ append_assoc d.values h.vals k.vals;
+      vals_there = values_there new h.vals k.vals (values_stay mid new h.vals k.later h.vals_there) k.vals_there;
       checked = checked_next h.asserts k.asserts (take i bs) x h.checked k.checked ∙ sym (ap blocks_checked taken);
       next = omega (arith, h.next, k.next, count);
       numbers = numbers_then (variables_in old) (variables_in mid) (variables_in new) d.next m.next n1 n2 (length (blocks_sorts (take (i + 1) bs))) h.numbers h.next k.numbers count;
@@ -274,6 +295,14 @@ went_next cs spare old mid new d m e edges edges1 edges2 first waits left bs i x
                 ∙ ap (λ r. r ++ true_sites a new k.sites) (placed_later mid new a h.sites k.later h.sites_there ∙ w.places a dead f1)
                 ∙ ap (λ r. all_places flat q sn ++ r) (b.places a dead f ∙ alike_places flat q dead (g a) (es a) fs (w.alike a dead f1))
                 ∙ sym (ap (λ (x : List Given). all_places flat q (seen flat q dead x (start a))) (row a) ∙ ap (all_places flat q) (seen_push flat q dead (gs a) (g a) (start a)) ∙ places_push flat q sn (seen_at dead (g a) fs));
+            values = λ a dead f.
+                let fs = fold flat q dead (gs a) (start a) in
+                let f1 = fits_before a mid new k.later f in
+                let sn = seen flat q dead (gs a) (start a) in
+                values_both a new h.vals k.vals
+                ∙ ap (λ r. r ++ true_values a new k.vals) (values_later mid new a h.vals k.later h.vals_there ∙ w.values a dead f1)
+                ∙ ap (λ r. all_values flat q sn ++ r) (b.values a dead f ∙ alike_values flat q dead (g a) (es a) fs (w.alike a dead f1))
+                ∙ sym (ap (λ (x : List Given). all_values flat q (seen flat q dead x (start a))) (row a) ∙ ap (all_values flat q) (seen_push flat q dead (gs a) (g a) (start a)) ∙ takes_push flat q sn (seen_at dead (g a) fs));
             asked = λ sorted. asked_both flat new h.sites k.sites (asked_later flat mid new h.sites k.later (w.asked sorted)) (b.asked sorted);
             single = λ a dead f.
                 let fs = fold flat q dead (gs a) (start a) in
@@ -319,6 +348,9 @@ went_whole cs spare old new d e edges edges1 first waits bs i l h =
       asserts = h.asserts;
       asserts_are = h.asserts_are;
       asserts_there = h.asserts_there;
+      vals = h.vals;
+      vals_are = h.vals_are;
+      vals_there = h.vals_there;
       checked = h.checked ∙ ap blocks_checked all;
       next = h.next ∙ ap (λ xs. d.next + length (blocks_sorts xs)) all;
       numbers = h.numbers ∙ ap (λ xs. variables_in old ++ numbers_from d.next (length (blocks_sorts xs))) all;
@@ -326,5 +358,5 @@ went_whole cs spare old new d e edges edges1 first waits bs i l h =
       stage = h.stage;
       says = λ flat q order are there st fit.
           let n : length order ≤ i = omega (arith, l, ap length are, orders_count flat q order) in
-          subst (λ (ns : List ℕ). WentSays flat q ns cs old d first new e waits h.marks h.sites h.asserts) (take_all order i n) (h.says flat q order are there st fit);
+          subst (λ (ns : List ℕ). WentSays flat q ns cs old d first new e waits h.marks h.sites h.asserts h.vals) (take_all order i n) (h.says flat q order are there st fit);
     }

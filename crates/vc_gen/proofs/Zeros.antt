@@ -1,6 +1,6 @@
 -- Zeros, and new variables that are versions.
 use Rattle.vc_gen.proofs.Pushing.{fresh_numbers}
-use Rattle.std.proofs.Common.{◌≡◌, ℕ, zero, suc, ◌+◌, ◌-◌, ◌<◌, Bool, true, false, not, ◌&&◌, ◌||◌, List, [], ◌∷◌, ◌++◌, map, length, arith, sym, ◌∙◌, ap, refl, subst, append-nil, append_assoc, length-append}
+use Rattle.std.proofs.Common.{◌≡◌, ℕ, Bool, true, List, [], ◌∷◌, ◌++◌, map, length, arith, sym, ◌∙◌, ap, refl, subst, append-nil}
 use Rattle.std.specs.Prelude.{Option, None, Some, slice_get, IsTrue, IsSome, if◌then◌else◌}
 use Rattle.std.specs.Option.{option_and_then}
 use Rattle.hy_val.specs.NodeSorts.{is_sort}
@@ -12,21 +12,19 @@ use Rattle.hy_val.specs.declared.sort.ScalarKind.TheVariants.{Bool as BoolSort, 
 use Rattle.hy_val.specs.declared.sort.SortKind.TheVariants.{Scalar as ScalarSort, Map as MapSort}
 use Rattle.hy_val.specs.declared.value.Value.{Value}
 use Rattle.hy_val.proofs.Lawful.{keep_sorts}
-use Rattle.hy_term.specs.TermSorts.{sorts, sort_at, sort_behind, sort_if, fits_behind}
+use Rattle.hy_term.specs.TermSorts.{sorts, sort_at, sort_behind, fits_behind}
 use Rattle.hy_term.specs.Meaning.{node_value, values, value, node_fits, fits}
-use Rattle.hy_term.specs.Variables.{node_below, below, reads}
+use Rattle.hy_term.specs.Variables.{node_below, reads}
 use Rattle.hy_term.specs.declared.node.TermNode.{TermNode}
-use Rattle.hy_term.specs.declared.node.TermNode.TheVariants.{Lit, ZeroMap}
 use Rattle.hy_term.proofs.Growing.{value-new}
 use Rattle.hy_term.proofs.Typing.{value_has_sort}
-use Rattle.passive_form.specs.Local.{sorted_as}
-use Rattle.passive_form.specs.declared.Item.{Item}
 use Rattle.passive_form.specs.declared.Item.TheVariants.{Zero, Free}
 use Rattle.vc_gen.specs.declared.parts.Draft.{Draft}
-use Rattle.vc_gen.specs.Standing.{Later, Plain, AreOf}
+use Rattle.vc_gen.specs.declared.parts.ValueTerm.{ValueTerm}
+use Rattle.vc_gen.specs.Standing.{AreOf}
 use Rattle.vc_gen.specs.Items.{bool_sort}
-use Rattle.vc_gen.specs.Emit.{ItemReady, Meant, Fresh, zero_node, Step}
-use Rattle.vc_gen.proofs.Growth.{later_push, plain_push, sort_added, fits_by, sort_later, are_count}
+use Rattle.vc_gen.specs.Emit.{ItemReady, Fresh, zero_node, Step}
+use Rattle.vc_gen.proofs.Growth.{later_push, plain_push, sort_added, fits_by, sort_later, sort_within, are_count}
 use Rattle.vc_gen.proofs.Steps.{step_zero, or_false, pushed_at}
 use Rattle.vc_gen.proofs.Passes.{bit_later}
 
@@ -82,9 +80,9 @@ pub cancel : {A : Type 0} (xs ys zs : List A) → xs ++ ys ≡ xs ++ zs → ys �
 cancel [] ys zs h = h
 cancel (x ∷ xs) ys zs h = let e : xs ++ ys ≡ xs ++ zs = cc in cancel xs ys zs e
 
-pub step_free : (cs : List ℕ) (block : ℕ) (old new : List TermNode) (d e : Draft) (v t : ℕ) (s : Sort) → ItemReady old cs d (Free v s) → Fresh old d (s ∷ []) new e → e.versions ≡ d.versions ++ t ∷ [] →
-    Step cs block old d (Free v s ∷ []) new e
-step_free cs block old new d e v t s r w p =
+pub step_free : (cs : List ℕ) (block : ℕ) (old new : List TermNode) (d e : Draft) (v t : ℕ) (s : Sort) → ItemReady old cs d (Free v s) → Fresh old d (s ∷ []) new e → e.versions ≡ d.versions ++ t ∷ [] → (taken : List ValueTerm) → taken ≡ e.values ++ record { node = t; live = e.cond } ∷ [] →
+    Step cs block old d (Free v s ∷ []) new (record e { values = taken })
+step_free cs block old new d e v t s r w p taken taken_is =
     let st = r.stands in
     let vs : e.versions ≡ d.versions ++ w.more = ap (λ (x : Draft). x.versions) w.draft_is in
     let more_is : w.more ≡ t ∷ [] = cancel d.versions w.more (t ∷ []) (sym vs ∙ p) in
@@ -113,6 +111,14 @@ step_free cs block old new d e v t s r w p =
       asserts_there = tt;
       asserts_behind = ap (λ (x : Draft). x.asserts) w.draft_is ∙ sym (append-nil d.asserts);
       checked = refl;
+      values = record { node = t; live = e.cond } ∷ [];
+      values_there = ((ap (sort_at new) cond_is ∙ sort_later old new d.cond bool_sort w.later st.cond, sort_within new t s sorted), tt);
+      values_behind = taken_is ∙ ap (λ (x : Draft). x.values ++ record { node = t; live = e.cond } ∷ []) w.draft_is;
+      taken = λ a consts vals f m.
+          let is : vals v ≡ value a new t = m.each v t (ap (λ xs. slice_get xs v) p ∙ pushed_at d.versions t v (length r.vsorts) r.fit.0 (are_count old d.versions r.vsorts st.versions)) in
+          let on = is_on (value a old d.cond) in
+          ap (λ i. if is_on (value a new i) then value a new t ∷ [] else []) cond_is ∙ ap (λ b. if b then value a new t ∷ [] else []) (bit_later old new a d.cond w.later st.cond)
+          ∙ ap (λ x. if on then x ∷ [] else []) (sym is) ∙ sym (append-nil (if on then vals v ∷ [] else []));
       says = λ a consts vals f m.
           let is : vals v ≡ value a new t = m.each v t (ap (λ xs. slice_get xs v) p ∙ pushed_at d.versions t v (length r.vsorts) r.fit.0 (are_count old d.versions r.vsorts st.versions)) in
           let read : value a new t ∷ [] ≡ reads a d.next 1 = ap (map (at (values a new))) (sym more_is) ∙ w.read a in

@@ -1,11 +1,11 @@
 -- The edges that leave a block become terms.
 use Rattle.flat_prog.specs.Sites.{numbers_from}
-use Rattle.std.specs.Prelude.{◌≡◌, ℕ, ◌+◌, ◌-◌, ◌<◌, Bool, true, not, ◌&&◌, List, [], ◌∷◌, ◌++◌, map, length, drop, replicate, Some, IsTrue, IsSome}
-use Rattle.hy_val.specs.Values.{at, is_on}
+use Rattle.std.specs.Prelude.{◌≡◌, ℕ, ◌+◌, ◌-◌, Bool, true, not, ◌&&◌, List, [], ◌∷◌, ◌++◌, map, length, drop, replicate, Some, IsTrue}
+use Rattle.hy_val.specs.Values.{is_on}
 use Rattle.hy_val.specs.declared.sort.Sort.{Sort}
 use Rattle.hy_val.specs.declared.value.Value.{Value}
-use Rattle.hy_term.specs.TermSorts.{sorts, sort_at}
-use Rattle.hy_term.specs.Meaning.{values, value, fits}
+use Rattle.hy_term.specs.TermSorts.{sort_at}
+use Rattle.hy_term.specs.Meaning.{value, fits}
 use Rattle.hy_term.specs.Variables.{below, reads}
 use Rattle.hy_term.specs.declared.node.TermNode.{TermNode}
 use Rattle.passive_form.specs.Local.{sorted_as}

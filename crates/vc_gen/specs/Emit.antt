@@ -1,14 +1,12 @@
 -- The items of a block become terms: under every assignment these have the values that the items say.
 use Rattle.flat_prog.specs.Sites.{numbers_from}
 use Rattle.vc_gen.specs.Passages.{places_from}
-use Rattle.std.specs.Prelude.{◌≡◌, ℕ, ◌+◌, ◌<◌, ◌≤◌, suc, Bool, true, false, not, ◌&&◌, ◌||◌, List, [], ◌∷◌, ◌++◌, map, length, take, drop, slice_get, slice_index, Some, IsTrue, IsSome}
-use Rattle.hy_val.specs.Exprs.{eval_by}
+use Rattle.std.specs.Prelude.{◌≡◌, ℕ, ◌+◌, ◌<◌, ◌≤◌, Bool, true, not, ◌&&◌, ◌||◌, List, [], ◌∷◌, ◌++◌, map, length, take, drop, slice_get, slice_index, Some, IsTrue, IsSome}
 use Rattle.hy_val.specs.Values.{at, is_on}
 use Rattle.hy_val.specs.Sorts.{zero_of_scalar}
 use Rattle.hy_val.specs.declared.sort.Sort.{Sort}
 use Rattle.hy_val.specs.declared.sort.SortKind.TheVariants.{Scalar as ScalarSort, Map as MapSort}
 use Rattle.hy_val.specs.declared.value.Value.{Value}
-use Rattle.hy_val.specs.declared.expr.Var.{Var}
 use Rattle.hy_val.specs.declared.expr.ExprNode.{ExprNode}
 use Rattle.hy_term.specs.TermSorts.{sorts, sort_at}
 use Rattle.hy_term.specs.Meaning.{values, value, fits}
@@ -22,6 +20,8 @@ use Rattle.passive_form.specs.Versions.{from, look_at, Defined, eval_all}
 use Rattle.vc_gen.specs.declared.parts.Draft.{Draft}
 use Rattle.vc_gen.specs.declared.parts.SiteTerm.{SiteTerm}
 use Rattle.vc_gen.specs.declared.parts.FailTerm.{FailTerm}
+use Rattle.vc_gen.specs.declared.parts.ValueTerm.{ValueTerm}
+use Rattle.vc_gen.specs.Taken.{true_values, ValuesThere, frees_in}
 use Rattle.vc_gen.specs.Standing.{Later, Plain, AreOf, variables_in}
 use Rattle.vc_gen.specs.Laid.{site_laid, calls_laid}
 use Rattle.vc_gen.specs.Singly.{assert_place, checks_at}
@@ -231,6 +231,10 @@ pub record Step (cs : List ℕ) (block : ℕ) (old : List TermNode) (d : Draft) 
   pub asserts_there : FailsThere new asserts
   pub asserts_behind : e.asserts ≡ d.asserts ++ asserts
   pub checked : map assert_place asserts ≡ checks_at block items
+  pub values : List ValueTerm
+  pub values_there : ValuesThere new values
+  pub values_behind : e.values ≡ d.values ++ values
+  pub taken : (a : ℕ → Value) (consts : List Value) (vals : ℕ → Value) → IsTrue (fits a new) → Meant a new cs e.versions consts vals → true_values a new values ≡ frees_in consts vals (is_on (value a old d.cond)) items
   pub says : (a : ℕ → Value) (consts : List Value) (vals : ℕ → Value) → IsTrue (fits a new) → Meant a new cs e.versions consts vals → Says cs block old d items new e sites asserts a consts vals
   pub fit : (a : ℕ → Value) → IsTrue (fits a old) → sorted_as (chosen items) (reads a d.next (length (chosen items))) ≡ true → IsTrue (fits a new)
 

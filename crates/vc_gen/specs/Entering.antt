@@ -1,16 +1,15 @@
 -- Edges that lead to one goal, a block or the end, become one.
-use Rattle.std.specs.Prelude.{◌≡◌, ℕ, nat_eq, Bool, true, false, ◌&&◌, ◌||◌, List, [], ◌∷◌, take, if◌then◌else◌, Option, None, Some, IsTrue, IsSome}
+use Rattle.std.specs.Prelude.{◌≡◌, ℕ, ◌+◌, ◌≤◌, nat_eq, Bool, true, false, ◌&&◌, ◌||◌, List, [], ◌∷◌, ◌++◌, length, take, if◌then◌else◌, Option, None, Some, IsTrue, IsSome}
 use Rattle.hy_val.specs.Values.{is_on}
 use Rattle.hy_val.specs.declared.sort.Sort.{Sort}
 use Rattle.hy_val.specs.declared.value.Value.{Value}
 use Rattle.hy_val.specs.declared.expr.Env.{Env}
-use Rattle.hy_term.specs.TermSorts.{sorts, sort_at}
+use Rattle.hy_term.specs.TermSorts.{sorts}
 use Rattle.hy_term.specs.Meaning.{value, fits}
 use Rattle.hy_term.specs.declared.node.TermNode.{TermNode}
 use Rattle.vc_gen.specs.Fold.{Edge}
 use Rattle.vc_gen.specs.declared.parts.Wait.{Wait}
-use Rattle.vc_gen.specs.Standing.{Later, Plain, AreOf}
-use Rattle.vc_gen.specs.Items.{bool_sort}
+use Rattle.vc_gen.specs.Standing.{Later, Plain}
 use Rattle.vc_gen.specs.Instance.{edges_at}
 use Rattle.vc_gen.specs.Joins.{WaitOf, WaitsOf}
 use Rattle.vc_gen.specs.Edges.{env_at}
@@ -34,10 +33,25 @@ abbrev pub met_env : Option ℕ → Env → List Edge → Env
 met_env goal d [] = d
 met_env goal d (e ∷ es) = met_env goal (if arrives goal e then e.env else d) es
 
+-- the same of an edge that may be there
+abbrev pub wanted_at : Option ℕ → Option Wait → Bool
+wanted_at goal None = false
+wanted_at goal (Some w) = wanted w.target goal
+
 -- the edges that lead elsewhere
 abbrev pub kept : Option ℕ → List Wait → List Wait
 kept goal [] = []
 kept goal (w ∷ ws) = if wanted w.target goal then kept goal ws else w ∷ kept goal ws
+
+-- so many edges are seen: those of them that lead elsewhere stand before this place, and the edges that are not seen stand behind them
+pub record KeepSoFar (goal : Option ℕ) (old new : List Wait) (place count : ℕ) : Type 0 where
+  pub front : List Wait
+  pub rest : List Wait
+  pub new_is : new ≡ front ++ rest
+  pub place_is : place ≡ length front
+  pub same : kept goal old ≡ front ++ kept goal rest
+  pub size : count + length rest ≡ length old
+  pub within : place ≤ count
 
 pub record EnterReady (nodes : List TermNode) (spare : Wait) (waits : List Wait) : Type 0 where
   pub gs : List Sort

@@ -1,6 +1,6 @@
 -- The blocks become terms, one by one.
 use Rattle.flat_prog.specs.Sites.{numbers_from}
-use Rattle.std.specs.Prelude.{◌≡◌, ℕ, ◌+◌, Bool, true, false, ◌||◌, List, [], ◌∷◌, ◌++◌, map, length, take, replicate, slice_get, Some, IsTrue, IsSome}
+use Rattle.std.specs.Prelude.{◌≡◌, ℕ, ◌+◌, true, false, ◌||◌, List, ◌++◌, map, length, take, replicate, slice_get, Some, IsTrue, IsSome}
 use Rattle.hy_val.specs.Values.{is_on}
 use Rattle.hy_val.specs.declared.sort.Sort.{Sort}
 use Rattle.hy_val.specs.declared.value.Value.{Value}
@@ -14,7 +14,7 @@ use Rattle.flat_prog.specs.declared.block.FlatBlock.{FlatBlock}
 use Rattle.flat_prog.specs.declared.proc.FlatProc.{FlatProc}
 use Rattle.passive_form.specs.Limited.{Limited}
 use Rattle.passive_form.specs.Local.{sorted_as}
-use Rattle.vc_gen.specs.Fold.{Edge, out_next, step, fold, seen, seen_at, reached, entered, through, edges_out, live_edges, choice_count}
+use Rattle.vc_gen.specs.Fold.{out_next, step, fold, seen, seen_at, reached, entered, through, edges_out, live_edges, choice_count}
 use Rattle.vc_gen.specs.Passages.{passages_seen, all_passages, places_seen, all_places}
 use Rattle.vc_gen.specs.Breaking.{breaks_seen, any_breaks}
 use Rattle.vc_gen.specs.Alike.{Alike}
@@ -27,6 +27,8 @@ use Rattle.vc_gen.specs.declared.parts.Wait.{Wait}
 use Rattle.vc_gen.specs.declared.parts.EdgeTerm.{EdgeTerm}
 use Rattle.vc_gen.specs.declared.parts.SiteTerm.{SiteTerm}
 use Rattle.vc_gen.specs.declared.parts.FailTerm.{FailTerm}
+use Rattle.vc_gen.specs.declared.parts.ValueTerm.{ValueTerm}
+use Rattle.vc_gen.specs.Taken.{true_values, ValuesThere, values_seen, all_values}
 use Rattle.vc_gen.specs.Standing.{Later, AreOf, variables_in}
 use Rattle.vc_gen.specs.Items.{bool_sort}
 use Rattle.vc_gen.specs.Emit.{FailsThere, site_value, SitesThere}
@@ -73,7 +75,7 @@ pub record BlockReady (nodes : List TermNode) (cs : List ℕ) (spare : Wait) (d 
   pub fit : BlockFits csorts gsorts lsorts block
 
 -- the terms of a block do with the waiting edges what the block does, and its fail bit is that of the block
-pub record BlockSays (flat : Limited) (q : FlatProc) (n : ℕ) (cs : List ℕ) (old : List TermNode) (d : Draft) (waits : List Wait) (new : List TermNode) (e : Draft) (left : List Wait) (marks : List EdgeTerm) (sites : List SiteTerm) (asserts : List FailTerm) : Type 0 where
+pub record BlockSays (flat : Limited) (q : FlatProc) (n : ℕ) (cs : List ℕ) (old : List TermNode) (d : Draft) (waits : List Wait) (new : List TermNode) (e : Draft) (left : List Wait) (marks : List EdgeTerm) (sites : List SiteTerm) (asserts : List FailTerm) (vals : List ValueTerm) : Type 0 where
   pub alike : (a : ℕ → Value) (dead : Env) → IsTrue (fits a new) →
       Alike (edges_at a new (all_at a new cs) left) (step flat q dead (given_at flat q a d.next n) (edges_at a old (all_at a old cs) waits))
   pub fails : (a : ℕ → Value) (dead : Env) → IsTrue (fits a new) →
@@ -85,6 +87,8 @@ pub record BlockSays (flat : Limited) (q : FlatProc) (n : ℕ) (cs : List ℕ) (
       SameCalls (map (site_value a new) sites) (passages_seen flat q (seen_at dead (given_at flat q a d.next n) (edges_at a old (all_at a old cs) waits)))
   pub places : (a : ℕ → Value) (dead : Env) → IsTrue (fits a new) →
       true_sites a new sites ≡ places_seen flat q (seen_at dead (given_at flat q a d.next n) (edges_at a old (all_at a old cs) waits))
+  pub values : (a : ℕ → Value) (dead : Env) → IsTrue (fits a new) →
+      true_values a new vals ≡ values_seen flat q (seen_at dead (given_at flat q a d.next n) (edges_at a old (all_at a old cs) waits))
   pub single : (a : ℕ → Value) (dead : Env) → IsTrue (fits a new) →
       length (true_asserts a new asserts) + length (failed_sites a new sites) ≡ one_if (breaks_seen flat q (seen_at dead (given_at flat q a d.next n) (edges_at a old (all_at a old cs) waits)))
   pub signed : SitesSigned flat new sites
@@ -102,16 +106,19 @@ pub record BlockDone (cs : List ℕ) (spare : Wait) (old : List TermNode) (d : D
   pub asserts : List FailTerm
   pub asserts_are : e.asserts ≡ d.asserts ++ asserts
   pub asserts_there : FailsThere new asserts
+  pub vals : List ValueTerm
+  pub vals_are : e.values ≡ d.values ++ vals
+  pub vals_there : ValuesThere new vals
   pub checked : map assert_place asserts ≡ checks_at block.number block.items
   pub next : e.next ≡ d.next + length (block_sorts block)
   pub numbers : variables_in new ≡ variables_in old ++ numbers_from d.next (length (block_sorts block))
   pub fit : (a : ℕ → Value) → IsTrue (fits a old) → sorted_as (block_sorts block) (reads a d.next (length (block_sorts block))) ≡ true → IsTrue (fits a new)
   pub stage : (csorts gsorts lsorts : List Sort) → Stage csorts gsorts lsorts old cs spare d waits → BlockFits csorts gsorts lsorts block → Stage csorts gsorts lsorts new cs spare e left
   pub says : (flat : Limited) (q : FlatProc) (n : ℕ) (b : FlatBlock) → slice_get q.blocks n ≡ Some b → cmds_there flat q b.cmds ≡ true → block ≡ passive_block flat q n b →
-      Stage flat.consts flat.globals (variables_of q) old cs spare d waits → BlockSays flat q n cs old d waits new e left marks sites asserts
+      Stage flat.consts flat.globals (variables_of q) old cs spare d waits → BlockSays flat q n cs old d waits new e left marks sites asserts vals
 
 -- the blocks of this order have become terms
-pub record WentSays (flat : Limited) (q : FlatProc) (order : List ℕ) (cs : List ℕ) (old : List TermNode) (d : Draft) (first : List Wait) (nodes : List TermNode) (e : Draft) (waits : List Wait) (marks : List EdgeTerm) (sites : List SiteTerm) (asserts : List FailTerm) : Type 0 where
+pub record WentSays (flat : Limited) (q : FlatProc) (order : List ℕ) (cs : List ℕ) (old : List TermNode) (d : Draft) (first : List Wait) (nodes : List TermNode) (e : Draft) (waits : List Wait) (marks : List EdgeTerm) (sites : List SiteTerm) (asserts : List FailTerm) (vals : List ValueTerm) : Type 0 where
   pub alike : (a : ℕ → Value) (dead : Env) → IsTrue (fits a nodes) →
       Alike (edges_at a nodes (all_at a nodes cs) waits) (fold flat q dead (givens_at flat q a d.next order) (edges_at a old (all_at a old cs) first))
   pub fails : (a : ℕ → Value) (dead : Env) → IsTrue (fits a nodes) →
@@ -121,6 +128,8 @@ pub record WentSays (flat : Limited) (q : FlatProc) (order : List ℕ) (cs : Lis
       SameCalls (map (site_value a nodes) sites) (all_passages flat q (seen flat q dead (givens_at flat q a d.next order) (edges_at a old (all_at a old cs) first)))
   pub places : (a : ℕ → Value) (dead : Env) → IsTrue (fits a nodes) →
       true_sites a nodes sites ≡ all_places flat q (seen flat q dead (givens_at flat q a d.next order) (edges_at a old (all_at a old cs) first))
+  pub values : (a : ℕ → Value) (dead : Env) → IsTrue (fits a nodes) →
+      true_values a nodes vals ≡ all_values flat q (seen flat q dead (givens_at flat q a d.next order) (edges_at a old (all_at a old cs) first))
   pub single : (a : ℕ → Value) (dead : Env) → IsTrue (fits a nodes) →
       length (true_asserts a nodes asserts) + length (failed_sites a nodes sites) ≡ count_breaks flat q (seen flat q dead (givens_at flat q a d.next order) (edges_at a old (all_at a old cs) first))
   pub signed : SitesSigned flat nodes sites
@@ -147,13 +156,16 @@ pub record Went (cs : List ℕ) (spare : Wait) (old : List TermNode) (d : Draft)
   pub asserts : List FailTerm
   pub asserts_are : e.asserts ≡ d.asserts ++ asserts
   pub asserts_there : FailsThere nodes asserts
+  pub vals : List ValueTerm
+  pub vals_are : e.values ≡ d.values ++ vals
+  pub vals_there : ValuesThere nodes vals
   pub checked : map assert_place asserts ≡ blocks_checked (take i blocks)
   pub next : e.next ≡ d.next + length (blocks_sorts (take i blocks))
   pub numbers : variables_in nodes ≡ variables_in old ++ numbers_from d.next (length (blocks_sorts (take i blocks)))
   pub fit : (a : ℕ → Value) → IsTrue (fits a old) → sorted_as (blocks_sorts (take i blocks)) (reads a d.next (length (blocks_sorts (take i blocks)))) ≡ true → IsTrue (fits a nodes)
   pub stage : (csorts gsorts lsorts : List Sort) → Stage csorts gsorts lsorts old cs spare d first → AllFit csorts gsorts lsorts blocks → Stage csorts gsorts lsorts nodes cs spare e waits
   pub says : (flat : Limited) (q : FlatProc) (order : List ℕ) → blocks ≡ passive_blocks flat q order → AllThere flat q order →
-      Stage flat.consts flat.globals (variables_of q) old cs spare d first → AllFit flat.consts flat.globals (variables_of q) blocks → WentSays flat q (take i order) cs old d first nodes e waits marks sites asserts
+      Stage flat.consts flat.globals (variables_of q) old cs spare d first → AllFit flat.consts flat.globals (variables_of q) blocks → WentSays flat q (take i order) cs old d first nodes e waits marks sites asserts vals
 
 -- all blocks have become terms
 pub record WentAll (cs : List ℕ) (spare : Wait) (old : List TermNode) (d : Draft) (edges : List EdgeTerm) (first : List Wait) (blocks : List PassiveBlock) (nodes : List TermNode) (e : Draft) (edges' : List EdgeTerm) (waits : List Wait) : Type 0 where
@@ -168,10 +180,13 @@ pub record WentAll (cs : List ℕ) (spare : Wait) (old : List TermNode) (d : Dra
   pub asserts : List FailTerm
   pub asserts_are : e.asserts ≡ d.asserts ++ asserts
   pub asserts_there : FailsThere nodes asserts
+  pub vals : List ValueTerm
+  pub vals_are : e.values ≡ d.values ++ vals
+  pub vals_there : ValuesThere nodes vals
   pub checked : map assert_place asserts ≡ blocks_checked blocks
   pub next : e.next ≡ d.next + length (blocks_sorts blocks)
   pub numbers : variables_in nodes ≡ variables_in old ++ numbers_from d.next (length (blocks_sorts blocks))
   pub fit : (a : ℕ → Value) → IsTrue (fits a old) → sorted_as (blocks_sorts blocks) (reads a d.next (length (blocks_sorts blocks))) ≡ true → IsTrue (fits a nodes)
   pub stage : (csorts gsorts lsorts : List Sort) → Stage csorts gsorts lsorts old cs spare d first → AllFit csorts gsorts lsorts blocks → Stage csorts gsorts lsorts nodes cs spare e waits
   pub says : (flat : Limited) (q : FlatProc) (order : List ℕ) → blocks ≡ passive_blocks flat q order → AllThere flat q order →
-      Stage flat.consts flat.globals (variables_of q) old cs spare d first → AllFit flat.consts flat.globals (variables_of q) blocks → WentSays flat q order cs old d first nodes e waits marks sites asserts
+      Stage flat.consts flat.globals (variables_of q) old cs spare d first → AllFit flat.consts flat.globals (variables_of q) blocks → WentSays flat q order cs old d first nodes e waits marks sites asserts vals

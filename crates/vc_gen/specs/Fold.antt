@@ -1,5 +1,5 @@
 -- The edges that wait for their target, while the blocks of a procedure are gone through in an order in which edges lead on.
-use Rattle.std.specs.Prelude.{◌≡◌, ℕ, ◌+◌, ◌-◌, length, nat_eq, Bool, true, false, not, ◌&&◌, ◌||◌, List, [], ◌∷◌, ◌++◌, slice_get, Option, None, Some, if◌then◌else◌, ◌⊎◌}
+use Rattle.std.specs.Prelude.{◌≡◌, ℕ, ◌+◌, ◌-◌, length, Bool, true, false, not, ◌&&◌, ◌||◌, List, [], ◌∷◌, ◌++◌, slice_get, Option, None, Some, if◌then◌else◌, ◌⊎◌}
 use Rattle.hy_val.specs.declared.value.Value.{Value}
 use Rattle.hy_val.specs.declared.expr.Env.{Env}
 use Rattle.flat_prog.specs.declared.block.FlatNext.{FlatNext}
@@ -8,8 +8,7 @@ use Rattle.flat_prog.specs.declared.block.FlatBlock.{FlatBlock}
 use Rattle.flat_prog.specs.declared.proc.FlatProc.{FlatProc}
 use Rattle.passive_form.specs.Limited.{Limited}
 use Rattle.passive_form.specs.Local.{State, alone, pass_all, cmds_of, is_target}
-use Rattle.flat_prog.specs.Local.{Request, Result}
-use Rattle.flat_prog.specs.Shape.{place_at}
+use Rattle.flat_prog.specs.Local.{Result}
 
 -- an edge whose target is not yet gone through; without a target it is a return
 pub record Edge : Type 0 where

@@ -1,11 +1,11 @@
 -- What the terms of a procedure say: their assignments are the procedure's runs, all calls free.
-use Rattle.std.specs.Prelude.{◌≡◌, ℕ, ◌+◌, ◌<◌, Bool, true, false, List, [], ◌∷◌, ◌++◌, map, length, Some, IsTrue, take}
+use Rattle.std.specs.Prelude.{◌≡◌, ℕ, ◌+◌, ◌<◌, true, false, List, [], ◌∷◌, ◌++◌, map, length, Some, IsTrue, take}
 use Rattle.hy_val.specs.Values.{at, is_on}
 use Rattle.hy_val.specs.declared.sort.Sort.{Sort}
 use Rattle.hy_val.specs.declared.value.Value.{Value}
 use Rattle.hy_val.specs.declared.expr.Env.{Env}
 use Rattle.hy_term.specs.Meaning.{values, value, fits}
-use Rattle.hy_term.specs.Variables.{below, reads}
+use Rattle.hy_term.specs.Variables.{reads}
 use Rattle.hy_term.specs.declared.node.TermNode.{TermNode}
 use Rattle.flat_prog.specs.declared.proc.FlatKind.{FlatKind}
 use Rattle.flat_prog.specs.declared.proc.FlatKind.TheVariants.{Source, Loop}
@@ -15,7 +15,6 @@ use Rattle.passive_form.specs.Local.{State, alone, sorted_as, start, LocalEnds, 
 use Rattle.flat_prog.specs.Local.{Result, Request, outs_of, edges_of}
 use Rattle.vc_gen.specs.Passages.{all_passages, blame, all_places, path_places, along}
 use Rattle.vc_gen.specs.Fold.{Edge, fold, seen, live_edges, ends, end_env}
-use Rattle.flat_prog.specs.Ordering.{Onward, is_in}
 use Rattle.vc_gen.specs.Breaking.{any_breaks}
 use Rattle.vc_gen.specs.BlockPlans.{recast}
 use Rattle.vc_gen.specs.Alike.{Alike}

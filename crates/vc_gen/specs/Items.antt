@@ -1,9 +1,9 @@
 -- What the items of a block say, as far as terms are concerned: their sorts, what they are given, and where the run is and fails.
-use Rattle.std.specs.Prelude.{◌≡◌, ℕ, ◌+◌, Bool, true, false, not, ◌&&◌, ◌||◌, List, [], ◌∷◌, ◌++◌, map, length, slice_get, Option, None, Some, IsTrue, IsSome}
+use Rattle.std.specs.Prelude.{◌≡◌, ℕ, Bool, false, not, ◌&&◌, ◌||◌, List, [], ◌∷◌, ◌++◌, map, length, slice_get, Option, None, Some, IsTrue, IsSome}
 use Rattle.hy_val.specs.Exprs.{eval_by}
 use Rattle.hy_val.specs.Building.{whole_sort}
 use Rattle.hy_val.specs.NodeSorts.{is_sort}
-use Rattle.hy_val.specs.Values.{at, is_on}
+use Rattle.hy_val.specs.Values.{is_on}
 use Rattle.hy_val.specs.declared.sort.ScalarKind.TheVariants.{Bool as BoolSort}
 use Rattle.hy_val.specs.declared.sort.Sort.{Sort}
 use Rattle.hy_val.specs.declared.sort.SortKind.TheVariants.{Scalar as ScalarSort}
@@ -11,7 +11,7 @@ use Rattle.hy_val.specs.declared.value.Value.{Value}
 use Rattle.hy_val.specs.declared.expr.Var.{Var}
 use Rattle.hy_val.specs.declared.expr.Var.TheVariants.{Const, Global, Local}
 use Rattle.hy_val.specs.declared.expr.ExprNode.{ExprNode}
-use Rattle.hy_val.specs.declared.expr.ExprNode.TheVariants.{Lit, Var as Read, Unary, Binary, If, Select, Store}
+use Rattle.hy_val.specs.declared.expr.ExprNode.TheVariants.{Var as Read}
 use Rattle.passive_form.specs.Local.{replaced}
 use Rattle.passive_form.specs.declared.Item.{Item}
 use Rattle.passive_form.specs.declared.Item.TheVariants.{Let, Zero, Free, Need, Check, Site}

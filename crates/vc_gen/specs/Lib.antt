@@ -7,6 +7,7 @@ pub mod BlockPlans
 pub mod Translate
 pub mod Items
 pub mod Inputs
+pub mod Taken
 pub mod Fitting
 pub mod Laid
 pub mod Singly
@@ -18,6 +19,7 @@ pub mod Edges
 pub mod Entering
 pub mod Exact
 pub mod Flowing
+pub mod Valued
 pub mod Plans
 pub mod Whole
 pub mod Requests

@@ -1,6 +1,6 @@
 -- The calls of a block, passed or not: what each is asked for and what comes back.
 use Rattle.hy_val.specs.declared.value.Value.{Value}
-use Rattle.std.specs.Prelude.{ℕ, zero, suc, length, ◌+◌, Bool, true, false, ◌&&◌, List, [], ◌∷◌, ◌++◌, slice_get, Option, None, Some, if◌then◌else◌, nat_eq}
+use Rattle.std.specs.Prelude.{ℕ, zero, suc, length, ◌+◌, Bool, false, List, [], ◌∷◌, ◌++◌, slice_get, Option, None, Some, if◌then◌else◌, nat_eq}
 use Rattle.flat_prog.specs.declared.block.FlatCmd.{FlatCmd}
 use Rattle.flat_prog.specs.declared.block.FlatCmd.TheVariants.{Assign, Havoc, Assume, Assert, Call}
 use Rattle.flat_prog.specs.declared.proc.FlatProc.{FlatProc}

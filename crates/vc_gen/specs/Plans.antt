@@ -81,6 +81,7 @@ pub record OpenAt (flat : Limited) (q : FlatProc) (order : List ℕ) (place coun
   pub post : List (Option Value)
   pub row_is : row ≡ pre ++ (mine ++ post)
   pub before : length pre ≡ length (sorts_of_blocks flat q (take place order))
+  pub size : (n : ℕ) → slice_get order place ≡ Some n → length mine ≡ length (sorts_of_block flat q n)
   pub behind : OpenBehind count mine
 
 -- for a run that ends: the values of the start's variables, and of those of the blocks as far as the run settles them. Under each assignment with

@@ -3,7 +3,7 @@ use Rattle.flat_prog.specs.Shape.{IsFlat}
 use Rattle.flat_prog.specs.Program.{FlatProgram}
 use Rattle.flat_prog.specs.Once.{numbers_differ}
 use Rattle.flat_prog.specs.Sites.{numbers_from}
-use Rattle.std.specs.Prelude.{◌≡◌, ℕ, ◌+◌, Bool, true, List, [], ◌∷◌, ◌++◌, map, length, Some, slice_get, IsTrue, IsSome}
+use Rattle.std.specs.Prelude.{◌≡◌, ℕ, ◌+◌, Bool, true, List, ◌++◌, map, length, Some, slice_get, IsTrue, IsSome}
 use Rattle.hy_val.specs.Values.{is_on}
 use Rattle.hy_val.specs.declared.value.Value.{Value}
 use Rattle.hy_term.specs.TermSorts.{sorts, sort_at}
@@ -27,9 +27,11 @@ use Rattle.vc_gen.specs.Signed.{SitesSigned, SitesAsked}
 use Rattle.vc_gen.specs.Laid.{site_laid, sites_laid}
 use Rattle.vc_gen.specs.Singly.{FailsOnce, assert_place, asserts_laid}
 use Rattle.vc_gen.specs.Plans.{EndsPlanned, FailsPlanned}
+use Rattle.vc_gen.specs.Taken.{ValuesThere}
+use Rattle.vc_gen.specs.Valued.{BuiltValued, EndsValued, FailsValued}
 use Rattle.vc_gen.specs.Items.{bool_sort}
 use Rattle.vc_gen.specs.Fitting.{PassiveFits}
-use Rattle.vc_gen.specs.Instance.{NeverBoth, PartsThere, Built, EndsSound, EndsComplete, FailsSound, FailsComplete, EndsPlaced, FailsPlaced, IsRoom, start_sorts}
+use Rattle.vc_gen.specs.Instance.{NeverBoth, PartsThere, EndsSound, EndsComplete, FailsSound, FailsComplete, EndsPlaced, FailsPlaced, IsRoom, start_sorts}
 
 -- a literal
 pub record IsLiteral (nodes : List TermNode) (t : ℕ) (bit : Bool) : Type 0 where
@@ -62,7 +64,7 @@ pub record NewVariables (old : List TermNode) (k : ℕ) (new : List TermNode) (n
 -- the terms of the passive form of a procedure
 abbrev pub IsBuilt : List TermNode → Passive → Actuals → ℕ → List TermNode → Instance → Type 0
 IsBuilt old p actuals k new i = (flat : Limited) (q : FlatProc) (order : List ℕ) → p ≡ passive_of flat q order → AllThere flat q order →
-    (left : List Wait) × Built flat q order actuals k old new left i.ended i.fails i.outs i.globals i.edges i.sites
+    (left : List Wait) × BuiltValued flat q order actuals k old new left i.ended i.fails i.outs i.globals i.edges i.sites i.values
     × PartsThere flat.globals q.outs new i.ended i.fails i.outs i.globals i.edges i.asserts × IsRoom flat q order k old new i.next × FailsOnce new i.fails i.asserts i.sites × (map assert_place i.asserts ≡ asserts_laid q order)
 
 -- the assignments that make `ended` true are the runs that end
@@ -119,6 +121,12 @@ HasRoom old p k new i = (flat : Limited) (q : FlatProc) (order : List ℕ) → p
 -- the sites whose bits are true are the calls of the path's blocks: all of them where the run ends, and the first ones where it fails
 abbrev pub HasPlaces : Passive → Actuals → List TermNode → Instance → Type 0
 HasPlaces p actuals new i = (flat : Limited) (q : FlatProc) (order : List ℕ) → p ≡ passive_of flat q order → AllThere flat q order → EndsPlaced flat q actuals new i.ended i.edges i.sites × FailsPlaced flat q actuals new i.fails i.edges i.sites
+
+-- The values that a run takes of its blocks are those whose bits are true: where it ends, all of its path's blocks, and where it fails, those before the
+-- command that fails. Each has its bit and its variable among the terms.
+abbrev pub HasValues : Passive → Actuals → ℕ → List TermNode → Instance → Type 0
+HasValues p actuals k new i = (flat : Limited) (q : FlatProc) (order : List ℕ) → p ≡ passive_of flat q order → AllThere flat q order →
+    ValuesThere new i.values × EndsValued flat q order actuals k new i.ended i.edges i.values × FailsValued flat q order actuals k new i.fails i.edges i.sites i.values
 
 -- the passive form of a procedure with sorts can become terms, and names what is there
 abbrev pub SortedFit : Type 0

@@ -1,6 +1,6 @@
-use Rattle.std.proofs.Common.{◌≡◌, drop, length}
-use Rattle.proc_template.specs.Layout.{with_blocks}
+use Rattle.std.proofs.Common.{◌≡◌, ◌++◌, drop}
+use Rattle.proc_template.specs.Layout.{blocks_roles}
 use Rattle.proc_template.proofs.layout.push_blocks.Given as goal
 
 abbrev pub invariant-loop-block : goal.invariant-loop-block
-invariant-loop-block l = (with_blocks l.starts l.initial.layout l.blocks ≡ with_blocks l.starts l.layout (drop l.block-index l.blocks)) × (length l.layout.blocks ≡ length l.starts)
+invariant-loop-block l = l.initial.roles ++ blocks_roles l.starts l.blocks ≡ l.roles ++ blocks_roles l.starts (drop l.block-index l.blocks)

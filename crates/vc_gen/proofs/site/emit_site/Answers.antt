@@ -1,7 +1,6 @@
-use Rattle.std.proofs.Common.{refl, ◌≡◌, rules, ℕ, ◌∙◌, ap, sym, subst}
+use Rattle.std.proofs.Common.{◌≡◌, ℕ, ◌∙◌, ap}
 use Rattle.std.specs.Prelude.{List, ◌++◌, ◌∷◌, []}
 use Rattle.hy_val.specs.declared.sort.SortKind.TheVariants.{Scalar as ScalarSort}
-use Rattle.vc_gen.specs.declared.parts.SiteTerm.{SiteTerm}
 use Rattle.passive_form.specs.Local.{replaced}
 use Rattle.vc_gen.specs.Items.{bool_sort}
 use Rattle.vc_gen.specs.Emit.{ArgsSay, terms_of}
