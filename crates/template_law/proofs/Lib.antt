@@ -1,3 +1,17 @@
 mod Fitting
 mod Formula
 mod Sounding
+mod PlanRuns
+mod PlanLow
+mod PlanSteps
+mod PlanSites
+mod PlanRows
+mod PlanBlocks
+mod PlanNumbers
+mod PlanFrom
+mod PlanBase
+mod PlanTold
+mod PlanSplit
+mod PlanEnds
+mod PlanMay
+mod Planning
