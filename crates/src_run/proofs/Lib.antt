@@ -11,3 +11,4 @@ pub mod Sorting
 pub mod Stacked
 pub mod Starting
 pub mod Takes
+pub mod Unseen

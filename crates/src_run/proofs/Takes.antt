@@ -40,12 +40,12 @@ scalar_self : (s : Scalar) → same_scalar s s ≡ true
 scalar_self BoolSort = refl
 scalar_self (BvSort w) = nat_eq-refl w
 
-atom_self : (a : Atom) → same_atom a a ≡ true
+pub atom_self : (a : Atom) → same_atom a a ≡ true
 atom_self (BoolAtom true) = refl
 atom_self (BoolAtom false) = refl
 atom_self (BvAtom a) = and-both (nat_eq a.width a.width) (nat_eq a.bits a.bits) (nat_eq-refl a.width) (nat_eq-refl a.bits)
 
-atom_is : (a b : Atom) → same_atom a b ≡ true → a ≡ b
+pub atom_is : (a b : Atom) → same_atom a b ≡ true → a ≡ b
 atom_is (BoolAtom true) (BoolAtom true) h = refl
 atom_is (BoolAtom true) (BoolAtom false) h = cc
 atom_is (BoolAtom false) (BoolAtom true) h = cc

@@ -9,4 +9,5 @@ pub mod Search
 pub mod Sorted
 pub mod State
 pub mod Stepping
+pub mod Uniques
 pub mod Whole

@@ -14,7 +14,8 @@ use crate::edges::jump;
 use crate::machine::{Choice, Status};
 use crate::running::{is_true, write};
 use crate::state::{Asked, State, Step};
-use hy_val::{Atom, Env, Expr, Value, Var};
+use crate::uniques::all_differ;
+use hy_val::{Env, Expr, Value, Var};
 use sqlite_items::{Items, at};
 use src_prog::Prog;
 use std::alloc::{AllocError, Global};
@@ -73,46 +74,6 @@ fn taken_for(alloc: Global, asked: &Asked, choice: &Choice) -> Result<Option<Tak
     }
 }
 
-// The value at a place, false where there is none.
-fn value_at<'a>(values: &'a [Value], place: u32, otherwise: &'a Value) -> &'a Value
-    requires { otherwise.now ≡ Value.Atom (AtomKind.Bool false) }
-    ensures { result.now ≡ value_at values.now place }
-{
-    at(values, place as usize).unwrap_or(otherwise)
-}
-
-// Whether two constants are equal.
-fn are_same(consts: &[Value], one: u32, other: u32) -> bool
-    ensures { result ≡ stores.same_value (value_at consts.now one) (value_at consts.now other) }
-{
-    let otherwise = Value::Atom(Atom::bool(false));
-    value_at(consts, one, &otherwise).same(value_at(consts, other, &otherwise))
-}
-
-// Whether a constant differs from all others of these numbers.
-fn differs_from(consts: &[Value], number: u32, others: &[u32]) -> bool
-    ensures { result ≡ list_all (λ m. not (stores.same_value (value_at consts.now number) (value_at consts.now m))) others.now }
-{
-    for other in others {
-        if are_same(consts, number, *other) {
-            return false;
-        }
-    }
-    true
-}
-
-// Whether the constants of these numbers differ from one another.
-fn all_differ(consts: &[Value], numbers: &[u32]) -> bool
-    ensures { result ≡ stores.all_differ consts.now numbers.now }
-{
-    for (index, number) in numbers.iter().enumerate() {
-        if !differs_from(consts, *number, &numbers[index + 1..]) {
-            return false;
-        }
-    }
-    true
-}
-
 // Whether all conditions are true.
 fn all_hold(alloc: Global, conditions: &[Expr], env: &Env) -> Result<bool, AllocError>
     requires { IsTrue (list_all (reads env.now) conditions.now) }
@@ -132,7 +93,7 @@ fn allows(alloc: Global, prog: &Prog, env: &Env) -> Result<bool, AllocError>
     requires reads { IsTrue (list_all (reads (spec.constants env.now.consts)) prog.now.axioms) }
     ensures { IfOk result (λ b. b ≡ machine.are_allowed prog.now env.now.consts) }
 {
-    if !all_differ(env.consts.as_slice(), prog.uniques()) {
+    if !all_differ(alloc, env.consts.as_slice(), prog.uniques())? {
         return Ok(false);
     }
     all_hold(alloc, prog.axioms(), env)

@@ -12,6 +12,7 @@ mod running;
 mod searching;
 mod state;
 mod stepping;
+mod uniques;
 
 pub use asking::{Run, asked, whole_run};
 pub use machine::{Choice, Status};

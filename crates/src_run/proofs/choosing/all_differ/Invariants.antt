@@ -1,6 +1,0 @@
-use Rattle.std.proofs.Common.{◌≡◌, drop}
-use Rattle.hy_val.specs.Stores.{all_differ}
-use Rattle.src_run.proofs.choosing.all_differ.Given as goal
-
-abbrev pub invariant-loop-index : goal.invariant-loop-index
-invariant-loop-index l = all_differ l.consts (drop l.index l.numbers) ≡ all_differ l.consts l.numbers
