@@ -34,10 +34,10 @@ use Rattle.src_run.specs.declared.machine.Status.TheVariants.{Going, Ended, Fail
 use Rattle.src_run.specs.Machine.{Config, Frame, Lap, Want, Way, Again, Enter, Stay, Out, AConst, AGlobal, ALocal, AVariable, ATarget, with_status, env_of, open_count, locals_wanted, call, command, entry_of, way, land_outside, land_inside, arrive, loops_of, jump, outs_of, leave, follow, at_command, at_block, at_proc, at_frames, tick, tested, are_allowed, bad, with_variable, go_to, take_choice, begin, begin_in, first_frame, wants_of, turn, going, over, after, within, Comes}
 use Rattle.hy_val.specs.Stores.{holds}
 use Rattle.src_law.specs.Statuses.{AreTaken, EachAskCanBeMet}
-use Rattle.src_law.proofs.Ends.{tick_comes, choice_comes}
+use Rattle.src_run.proofs.Ends.{tick_comes, choice_comes}
 use Rattle.src_law.proofs.Taken.{Took, jump_took, tested_took, variable_took}
 use Rattle.src_law.proofs.Bad.{none_bad}
-use Rattle.src_law.proofs.Going.{has_status}
+use Rattle.src_run.proofs.Going.{has_status}
 
 -- there is a value of what is wanted, or a target
 abbrev pub can_be_met : Want → Bool

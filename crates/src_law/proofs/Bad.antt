@@ -7,7 +7,7 @@ use Rattle.src_run.specs.declared.machine.Status.{Status}
 use Rattle.src_run.specs.declared.machine.Status.TheVariants.{Going, Ended, Failed, Blocked, Cut, BadChoice}
 use Rattle.src_run.specs.Machine.{Config, Want, Stands, tick, take_choice, bad, turn, going, over, after, within, Comes, HasStatus, begin}
 use Rattle.src_law.specs.Statuses.{IsEnd, AreTaken, BadChoicesAreFirst}
-use Rattle.src_law.proofs.Ends.{comes_tick, comes_choice}
+use Rattle.src_run.proofs.Ends.{comes_tick, comes_choice}
 use Rattle.src_law.proofs.Taken.{Took, tick_took, choice_took, begin_took}
 
 -- a run that stands at once

@@ -32,7 +32,7 @@ use Rattle.src_run.specs.Machine.{Config, Frame, Lap, Want, Way, Again, Enter, S
 use Rattle.hy_val.specs.Stores.{holds, write, write_all}
 use Rattle.src_law.specs.Causes.{Place, HasConstsNotAllowed, IsAtFalseAssume, IsAtFalseAssert, IsAtFullCall, IsAtFullLoop, StatusesHaveCauses}
 use Rattle.src_law.specs.OpenLoops.{config_of, turned}
-use Rattle.src_law.proofs.Laps.{IsWay, way_is}
+use Rattle.src_run.proofs.Laps.{IsWay, way_is}
 use Rattle.src_law.proofs.Counting.{LapsWithin, CountsWithin, jump_counts, turned_stands}
 
 -- ---- places

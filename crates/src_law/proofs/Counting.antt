@@ -30,7 +30,7 @@ use Rattle.src_run.specs.Machine.{Config, Frame, Lap, Want, Way, Again, Enter, S
 use Rattle.hy_val.specs.Stores.{holds}
 use Rattle.src_law.specs.OpenLoops.{CountsItsLoops, OpenLoopsAreCountedOnce, config_of, turned}
 use Rattle.src_law.proofs.Falling.{are_around, heads_differ}
-use Rattle.src_law.proofs.Fitting.{Fits, FrameFits, FramesFit, TargetsFit, first_fits, locals_fit, variables_fit, loops_fit_in, jump_fits, taken_fits, begin_fits}
+use Rattle.src_run.proofs.Fitting.{Fits, FrameFits, FramesFit, TargetsFit, first_fits, locals_fit, variables_fit, loops_fit_in, jump_fits, taken_fits, begin_fits}
 
 -- no count is above the bound
 abbrev pub LapsWithin : ℕ → List Lap → Type 0

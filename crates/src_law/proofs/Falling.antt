@@ -10,8 +10,8 @@ use Rattle.src_prog.specs.declared.proc.SrcLoop.{SrcLoop}
 use Rattle.hy_val.proofs.Booleans.{and-first, and-second}
 use Rattle.src_run.specs.Machine.{Lap}
 use Rattle.src_law.specs.OpenLoops.{loop_of, loops_around}
-use Rattle.src_law.proofs.Nested.{IsLoop, first_nested}
-use Rattle.src_law.proofs.Laps.{IsOpen, HeadsBelow, Around, LapsFit}
+use Rattle.src_run.proofs.Nested.{IsLoop, first_nested}
+use Rattle.src_run.proofs.Laps.{IsOpen, HeadsBelow, Around, LapsFit}
 
 -- all heads are below this one
 abbrev Below : ℕ → List SrcLoop → Type 0

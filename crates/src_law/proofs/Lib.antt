@@ -1,10 +1,3 @@
-pub mod Nested
-pub mod Laps
-pub mod Rounds
-pub mod Ends
-pub mod Fitting
-pub mod Opening
-pub mod Going
 pub mod Taken
 pub mod Bad
 pub mod Asking

@@ -25,7 +25,7 @@ use Rattle.hy_val.specs.Stores.{holds}
 use Rattle.src_law.specs.OpenFrames.{frames_allowed, OpenFramesAreBounded}
 use Rattle.src_law.specs.OpenLoops.{config_of, turned}
 use Rattle.src_law.proofs.Counting.{turned_stands}
-use Rattle.src_law.proofs.Opening.{opened, opened_is, opened_more}
+use Rattle.src_run.proofs.Opening.{opened, opened_is, opened_more}
 
 module _ (prog : Program) (entry bound : ℕ) where
   abbrev AreAllowed : List Frame → Type 0

@@ -1,9 +1,17 @@
+pub mod Ends
 pub mod Environments
+pub mod Fitting
+pub mod Going
 pub mod Heads
+pub mod Laps
+pub mod Measured
 pub mod Naming
+pub mod Nested
+pub mod Opening
 pub mod Plainly
 pub mod Programs
 pub mod Replays
+pub mod Rounds
 pub mod Rows
 pub mod Runs
 pub mod Sorted

@@ -23,14 +23,14 @@ either_way P true c d p q = p
 either_way P false c d p q = q
 
 -- more turns change nothing
-abbrev MoreTurns : ℕ → Program → ℕ → Type 0
+abbrev pub MoreTurns : ℕ → Program → ℕ → Type 0
 MoreTurns n prog bound = (index : ℕ) (c : Config) (choices : List Choice) (last : Config) → within n prog bound index c choices ≡ Some last → within (suc n) prog bound index c choices ≡ Some last
 
 more_after : (n : ℕ) (prog : Program) (bound : ℕ) (last : Config) → MoreTurns n prog bound → (t : Turn) → after (λ i d xs. within n prog bound i d xs) t ≡ Some last → after (λ i d xs. within (suc n) prog bound i d xs) t ≡ Some last
 more_after n prog bound last f (Stands d) h = h
 more_after n prog bound last f (GoesOn i d xs) h = f i d xs last h
 
-more_turns : (n : ℕ) (prog : Program) (bound : ℕ) → MoreTurns n prog bound
+pub more_turns : (n : ℕ) (prog : Program) (bound : ℕ) → MoreTurns n prog bound
 more_turns zero prog bound index c choices last h = cc
 more_turns (suc n) prog bound index c choices last h = more_after n prog bound last (more_turns n prog bound) (turn prog bound index c c.status choices) h
 

@@ -133,6 +133,10 @@ tested_by prog c (ALocal sort ∷ ws) P h k = k
 tested_by prog c (AVariable x sort ∷ ws) P h k = k
 tested_by prog c (ATarget targets ∷ ws) P h k = k
 
+-- no frame is opened by it
+pub tested_frames : (prog : Program) (c : Config) (ws : List Want) → (tested prog c ws).frames ≡ c.frames
+tested_frames prog c ws = let P : Config → Type 0 = λ d. d.frames ≡ c.frames in tested_by prog c ws P refl (either_way P (are_allowed prog c.consts) c (with_status c Blocked) refl refl)
+
 -- the test changes the status alone
 tested_keeps : (prog : Program) (c : Config) (ws : List Want) → (((tested prog c ws).consts ≡ c.consts) × ((tested prog c ws).wants ≡ c.wants))
 tested_keeps prog c ws =

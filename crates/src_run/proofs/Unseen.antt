@@ -1,6 +1,6 @@
 -- Constants that are looked for among those seen before, against constants that are compared pair by pair.
-use Rattle.std.proofs.Common.{◌≡◌, ℕ, ◌+◌, Bool, true, false, not, ◌&&◌, ◌||◌, List, [], ◌∷◌, length, ◌<◌, zero, suc, ◌-◌, slice_index, take, drop, refl, sym, ap, ◌∙◌, subst, arith, if◌then◌else◌}
-use Rattle.std.proofs.lemmas.Cmp.{nat_cmp_total, tied_itself, then_total, on_total}
+use Rattle.std.proofs.Common.{◌≡◌, ℕ, ◌+◌, Bool, true, false, not, ◌&&◌, ◌||◌, List, [], ◌∷◌, length, ◌<◌, ◌-◌, slice_index, take, drop, refl, sym, ap, ◌∙◌, subst, arith, if◌then◌else◌}
+use Rattle.std.proofs.lemmas.Cmp.{nat_cmp_total, tied_itself}
 use Rattle.std.proofs.lemmas.List.{drop-drop, length-drop}
 use Rattle.std.proofs.Math.Seq.{take-length}
 use Rattle.std.proofs.lemmas.Map.Lookups.{exact_unsigned, exact_pairs}
@@ -115,7 +115,7 @@ none_seen consts numbers seen empty = rw (all_true numbers (λ n. is_unseen seen
 pub steps_atom : (consts : List Value) (n : ℕ) (ns : List ℕ) (atom : Atom) (before now : BTreeSet (ℕ × ℕ)) (new : Bool) → at consts n ≡ AtomValue atom → Adds atom before now new → Steps consts (n ∷ ns) before now new
 steps_atom consts n ns atom before now true is (new, has) =
     let rest : list_all (λ m. is_unseen now (at consts m)) ns ≡ (list_all (λ m. not (same_value (AtomValue atom) (at consts m))) ns && list_all (λ m. is_unseen before (at consts m)) ns) =
-        both (λ m. is_unseen now (at consts m)) (λ m. not (same_value (AtomValue atom) (at consts m))) (λ m. is_unseen before (at consts m)) (λ m. unseen_now atom before now has (at consts m)) ns in
+    both (λ m. is_unseen now (at consts m)) (λ m. not (same_value (AtomValue atom) (at consts m))) (λ m. is_unseen before (at consts m)) (λ m. unseen_now atom before now has (at consts m)) ns in
     rw (is, ← new, rest) (turned (list_all (λ m. not (same_value (AtomValue atom) (at consts m))) ns) (list_all (λ m. is_unseen before (at consts m)) ns) (all_differ consts ns))
   where
     turned : (a b c : Bool) → ((a && b) && c) ≡ (b && (a && c))

@@ -2,7 +2,7 @@
 ghost use Rattle.std.specs.Prelude.{◌≡◌, ◌<◌, ◌≤◌, ◌+◌, ◌++◌, ◌∷◌, [], ℕ, drop, length, option_map, slice_get, IfOk, IsTrue, OnOk};
 ghost use Rattle.std.specs.Option.{option_copied};
 ghost use Rattle.src_prog.specs.Shape.{is_program};
-ghost use Rattle.src_run.specs.Machine.{Config};
+ghost use Rattle.src_run.specs.Machine.{Config, begin};
 ghost use Rattle.src_run.specs.Names as spec;
 ghost use Rattle.src_run.specs.Names.{HasNames};
 ghost use Rattle.src_run.specs.Whole.{IsRun, IsRunFrom};
@@ -102,19 +102,20 @@ fn run_on(
     choices: &[Choice],
     mut state: State,
 ) -> Result<Run, AllocError>
-    requires { AreSorted prog.now (config_of state) }
+    requires sorted { AreSorted prog.now (config_of state) }
+    requires begins { config_of state ≡ begin prog.now state.place.proc }
     ensures { IfOk result (λ run. IsRunFrom prog.now bound (config_of state) choices.now run) }
 {
     let mut names = Items::new(alloc);
+    let _consts = prog.consts();
     let mut index = 0;
-    for _ in 0..u64::MAX {
+    loop {
         name_turn(alloc, prog, &state, index, choices, &mut names)?;
         match turn(alloc, prog, bound, index, choices, &mut state)? {
             Onward::On(next) => index = next,
             Onward::Over(status) => return Ok(Run { status, names }),
         }
     }
-    Err(AllocError)
 }
 
 /// The entry's run on a list of choices: its only status, as `replay` gives it, and the names, as `asked` gives them, in one

@@ -177,17 +177,18 @@ fn run_on(
     choices: &[Choice],
     mut state: State,
 ) -> Result<Status, AllocError>
-    requires { AreSorted prog.now (config_of state) }
+    requires sorted { AreSorted prog.now (config_of state) }
+    requires begins { config_of state ≡ machine.begin prog.now state.place.proc }
     ensures { IfOk result (λ s. Comes prog.now bound 0 (config_of state) choices.now s) }
 {
+    let _consts = prog.consts();
     let mut index = 0;
-    for _ in 0..u64::MAX {
+    loop {
         match turn(alloc, prog, bound, index, choices, &mut state)? {
             Onward::On(next) => index = next,
             Onward::Over(status) => return Ok(status),
         }
     }
-    Err(AllocError)
 }
 
 /// The status of the entry's run after all choices, with at most so many frames of each procedure open, and so many back edges
@@ -196,7 +197,7 @@ fn run_on(
 /// project's own).
 ///
 /// It takes time for each command that the run passes, and memory for the frames that are open. `AllocError` comes where memory
-/// runs out; a run of 2^64 - 1 turns, which none ends in practice, counts as that.
+/// runs out. It ends with the run, whose turns are known to be finitely many.
 pub fn replay(
     alloc: Global,
     prog: &Prog,

@@ -3,7 +3,13 @@ use Rattle.std.proofs.lemmas.Result.{IfOk-weaker}
 use Rattle.src_run.specs.Machine.{Config, Comes, HasStatus, begin}
 use Rattle.src_run.specs.State.{config_of}
 use Rattle.src_run.proofs.Replays.{stands}
+use Rattle.src_run.proofs.Measured.{begins_in}
 use Rattle.src_run.proofs.replaying.replay.Goals as goal
+
+pub run_on-requires-clause-begins : goal.run_on-requires-clause-begins
+run_on-requires-clause-begins c =
+    let begun = rw c.in-Going.is at (c.in_ok-state.ensures {u = tt}) in
+    begins_in c.args.prog.now c.args.entry c.in-Going.state c.requires begun.0
 
 pub returns-in-Going : goal.returns-in-Going
 returns-in-Going c =

@@ -1,4 +1,4 @@
-use Rattle.std.proofs.Common.{◌≡◌, Bool, List, ℕ, not, subst}
+use Rattle.std.proofs.Common.{◌≡◌, not, subst}
 use Rattle.std.specs.List.{list_all, slice_index}
 use Rattle.hy_val.specs.Stores.{same_value}
 use Rattle.hy_val.specs.Values.{at}

@@ -27,12 +27,12 @@ use Rattle.src_run.specs.declared.machine.Status.{Status}
 use Rattle.src_run.specs.declared.machine.Status.TheVariants.{Going, Failed, Blocked, Cut}
 use Rattle.src_run.specs.Machine.{Config, Frame, Want, ATarget, with_status, env_of, open_count, further, locals_wanted, call, command, land, jump, outs_of, leave, follow, at_command, tick, take_choice, begin, HasStatus}
 use Rattle.hy_val.specs.Stores.{holds}
-use Rattle.src_law.proofs.Nested.{Edge, IsLoop}
-use Rattle.src_law.proofs.Laps.{LapsFit, Lands}
-use Rattle.src_law.proofs.Rounds.{rounds_left, forward, backward}
-use Rattle.src_law.proofs.Ends.{Ends, is_going, ends_over, ends_tick, ends_asking, ends_choice}
-use Rattle.src_law.proofs.Fitting.{Fits, FramesFit, WantFits, TargetsFit, first_fits, locals_fit, variables_fit, edge_to, jump_lands, loops_fit_in, taken_fits, begin_fits}
-use Rattle.src_law.proofs.Opening.{opened_is, room, room_same, room_taken}
+use Rattle.src_run.proofs.Nested.{Edge, IsLoop}
+use Rattle.src_run.proofs.Laps.{LapsFit, Lands}
+use Rattle.src_run.proofs.Rounds.{rounds_left, forward, backward}
+use Rattle.src_run.proofs.Ends.{Ends, is_going, ends_over, ends_tick, ends_asking, ends_choice}
+use Rattle.src_run.proofs.Fitting.{Fits, FramesFit, WantFits, TargetsFit, first_fits, locals_fit, variables_fit, edge_to, jump_lands, loops_fit_in, taken_fits, begin_fits}
+use Rattle.src_run.proofs.Opening.{opened_is, room, room_same, room_taken}
 
 module _ (prog : Program) (h : is_program prog ≡ true) (bound : ℕ) (choices : List Choice)
     (asks : (c : Config) (w : Want) (ws : List Want) → c.status ≡ Going → c.wants ≡ w ∷ ws → Fits prog c → Ends prog bound choices c) where

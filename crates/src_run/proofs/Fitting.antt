@@ -20,8 +20,8 @@ use Rattle.src_run.specs.declared.machine.Choice.{Choice}
 use Rattle.src_run.specs.declared.machine.Choice.TheVariants.{Go, Val}
 use Rattle.src_run.specs.declared.machine.Status.TheVariants.{Going, Blocked}
 use Rattle.src_run.specs.Machine.{Config, Frame, Want, AConst, AGlobal, ALocal, AVariable, ATarget, with_status, jump, tested, are_allowed, bad, with_local, with_variable, go_to, take_choice, begin, begin_in, first_frame, wants_of}
-use Rattle.src_law.proofs.Nested.{IsLoop, Edge, edge, head_below}
-use Rattle.src_law.proofs.Laps.{LapsFit, LoopsFit, Lands, IsOpen, lands}
+use Rattle.src_run.proofs.Nested.{IsLoop, Edge, edge, head_below}
+use Rattle.src_run.proofs.Laps.{LapsFit, LoopsFit, Lands, IsOpen, lands}
 
 -- ---- what the type of programs keeps
 

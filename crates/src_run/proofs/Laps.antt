@@ -6,7 +6,7 @@ use Rattle.src_prog.specs.Loops.{loop_is_within, are_nested}
 use Rattle.src_prog.specs.declared.proc.SrcLoop.{SrcLoop}
 use Rattle.src_run.specs.Machine.{Config, Frame, Lap, Way, Again, Enter, Stay, Out, entry_of, way, land, land_outside, land_inside, arrive, with_status}
 use Rattle.src_run.specs.declared.machine.Status.TheVariants.{Cut}
-use Rattle.src_law.proofs.Nested.{IsLoop, Edge, head_below, nested, one_exit}
+use Rattle.src_run.proofs.Nested.{IsLoop, Edge, head_below, nested, one_exit}
 
 -- a loop with this head and this exit is open
 abbrev pub IsOpen : List Lap → (head exit : ℕ) → Type 0

@@ -8,8 +8,8 @@ use Rattle.src_prog.specs.Loops.{is_apart_or_inside, are_nested}
 use Rattle.src_prog.specs.declared.proc.SrcLoop.{SrcLoop}
 use Rattle.src_run.specs.Machine.{Lap}
 use Rattle.hy_val.proofs.Booleans.{and-first, and-second}
-use Rattle.src_law.proofs.Nested.{IsLoop, Edge, first_nested}
-use Rattle.src_law.proofs.Laps.{rounds, LapsFit, Landing}
+use Rattle.src_run.proofs.Nested.{IsLoop, Edge, first_nested}
+use Rattle.src_run.proofs.Laps.{rounds, LapsFit, Landing}
 
 -- more than the bound before the loop, the rounds that the bound leaves inside, and 0 behind it
 abbrev pub left_in : (bound block : ℕ) → List Lap → (head exit : ℕ) → ℕ
