@@ -1,3 +1,4 @@
+pub mod Arguments
 pub mod Memory
 pub mod Outside
 pub mod System

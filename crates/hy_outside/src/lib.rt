@@ -11,9 +11,11 @@ ghost use Rattle.hy_outside.specs.Outside.{HasCause, IsToldAs, OpenCause, OpensT
 use hy_text::Text;
 use std::alloc::Global;
 
+pub mod arguments;
 pub mod memory;
 pub mod system;
 
+pub use arguments::words_of;
 pub use memory::{MemShelf, MemSink, Turn};
 pub use system::{FileShelf, StdSink};
 
