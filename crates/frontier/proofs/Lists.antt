@@ -39,7 +39,7 @@ calls_append (Assume e ∷ cs) ds = calls_append cs ds
 calls_append (Assert p n e ∷ cs) ds = calls_append cs ds
 calls_append (Call p args outs ∷ cs) ds = ap (λ x. p ∷ x) (calls_append cs ds)
 
-sites_append : (bs cs : List FlatBlock) → sites_of (bs ++ cs) ≡ sites_of bs ++ sites_of cs
+pub sites_append : (bs cs : List FlatBlock) → sites_of (bs ++ cs) ≡ sites_of bs ++ sites_of cs
 sites_append [] cs = refl
 sites_append (b ∷ bs) cs = ap (λ x. calls_of b.cmds ++ x) (sites_append bs cs) ∙ sym (append_assoc (calls_of b.cmds) (sites_of bs) (sites_of cs))
 

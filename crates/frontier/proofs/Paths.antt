@@ -8,11 +8,11 @@ use Rattle.indexmap.specs.IndexSet.{insert_key}
 use Rattle.call_tree.specs.Trees.{has_path}
 use Rattle.frontier.proofs.Lists.{take_next}
 
-or_none : (b : Bool) → (b || false) ≡ b
+pub or_none : (b : Bool) → (b || false) ≡ b
 or_none true = refl
 or_none false = refl
 
-or_assoc : (a b c : Bool) → (a || (b || c)) ≡ ((a || b) || c)
+pub or_assoc : (a b c : Bool) → (a || (b || c)) ≡ ((a || b) || c)
 or_assoc true b c = refl
 or_assoc false b c = refl
 

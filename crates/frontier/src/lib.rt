@@ -6,7 +6,10 @@ mod callees;
 mod growing;
 mod listing;
 mod nodes;
+mod numbers;
+mod passing;
 mod ways;
 
 pub use growing::inline;
 pub use listing::{cut_sites, open_sites};
+pub use passing::passed_opens;
