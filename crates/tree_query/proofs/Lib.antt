@@ -8,3 +8,13 @@ pub mod Numbers
 pub mod Tables
 pub mod Walking
 pub mod Basing
+pub mod Founds
+pub mod Nodes
+pub mod Making
+pub mod Capped
+pub mod Answering
+pub mod Formed
+pub mod Lifting
+pub mod Ready
+pub mod Tabling
+pub mod Marks

@@ -70,7 +70,7 @@ pub record Splits (flat : FlatProgram) (from : ℕ) (path : List ℕ) (site : �
   pub call : slice_get (callees flat (last_or 0 way)) site ≡ Some (last_or 0 whole)
 
 -- a way to a call goes by the way to its node
-split_along : (flat : FlatProgram) (from : ℕ) (path : List ℕ) (site : ℕ) (whole : List ℕ) → along flat from (path ++ site ∷ []) ≡ Some whole → Splits flat from path site whole
+pub split_along : (flat : FlatProgram) (from : ℕ) (path : List ℕ) (site : ℕ) (whole : List ℕ) → along flat from (path ++ site ∷ []) ≡ Some whole → Splits flat from path site whole
 split_along flat from [] site whole h =
     let o = option_map_some (λ ps. from ∷ ps) (option_and_then (λ q. along flat q []) (slice_get (callees flat from) site)) whole h in
     let c = and_then_some (λ q. along flat q []) (slice_get (callees flat from) site) o.0 o.1 in
@@ -90,7 +90,7 @@ split_along flat from (x ∷ path) site whole h =
       call = ap (λ (p : ℕ). slice_get (callees flat p) site) (last_skip from c.0 r.way begin.0 begin.1) ∙ r.call ∙ ap (λ (n : ℕ). Some n) last;
     }
 
-exists_of : (flat : FlatProgram) (bound : ℕ) (o : Option (List ℕ)) → chain_within flat bound o ≡ true → (ps : List ℕ) × (o ≡ Some ps)
+pub exists_of : (flat : FlatProgram) (bound : ℕ) (o : Option (List ℕ)) → chain_within flat bound o ≡ true → (ps : List ℕ) × (o ≡ Some ps)
 exists_of flat bound None h = cc
 exists_of flat bound (Some ps) h = (ps, refl)
 
@@ -192,7 +192,7 @@ places_next flat entry bound tree templates places new i path p t h is before p_
 
 -- ---- the sites of a node, one after the other
 
-extended-snoc : (path ns : List ℕ) (n : ℕ) → extended path (ns ++ n ∷ []) ≡ extended path ns ++ (path ++ n ∷ []) ∷ []
+pub extended-snoc : (path ns : List ℕ) (n : ℕ) → extended path (ns ++ n ∷ []) ≡ extended path ns ++ (path ++ n ∷ []) ∷ []
 extended-snoc path [] n = refl
 extended-snoc path (m ∷ ns) n = ap (λ (r : List (List ℕ)). (path ++ m ∷ []) ∷ r) (extended-snoc path ns n)
 

@@ -33,7 +33,7 @@ length-places f (p ∷ ps) = ap suc (length-places f ps)
 count_is : (flat : FlatProgram) (entry : ℕ) (tree : List (List ℕ)) (q : Linked) → IsTabled flat entry tree q → length q.tree ≡ length tree
 count_is flat entry tree q t = ap length t ∙ length-places (place_by flat entry tree) tree
 
-path_there : (tree : List (List ℕ)) (m : ℕ) → m < length tree → slice_get tree m ≡ Some (path_at tree m)
+pub path_there : (tree : List (List ℕ)) (m : ℕ) → m < length tree → slice_get tree m ≡ Some (path_at tree m)
 path_there [] m l = absurd (omega (arith, l))
 path_there (p ∷ tree) zero l = refl
 path_there (p ∷ tree) (suc m) l = path_there tree m (omega (arith, l))
@@ -49,7 +49,7 @@ parent_is flat entry tree q m p t is = ap parent_by (node_at flat entry tree q m
 
 -- ---- sites
 
-nth_site : (path : List ℕ) (first n i : ℕ) → i < n → slice_get (extended path (numbers_from first n)) i ≡ Some (path ++ (first + i) ∷ [])
+pub nth_site : (path : List ℕ) (first n i : ℕ) → i < n → slice_get (extended path (numbers_from first n)) i ≡ Some (path ++ (first + i) ∷ [])
 nth_site path first zero i l = absurd (omega (arith, l))
 nth_site path first (suc n) zero l = let e : first ≡ first + 0 = omega arith in ap (λ (k : ℕ). Some (path ++ k ∷ [])) e
 nth_site path first (suc n) (suc i) l =

@@ -4,3 +4,8 @@ pub mod Allowing
 pub mod Tabled
 pub mod Walked
 pub mod Based
+pub mod Asking
+pub mod Readied
+pub mod Founded
+pub mod Asked
+pub mod Answered

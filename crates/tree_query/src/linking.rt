@@ -126,7 +126,7 @@ fn place(
 }
 
 // The entries of all nodes.
-fn places(
+pub(crate) fn places(
     alloc: Global,
     flat: &Flat,
     entry: u32,
