@@ -12,7 +12,7 @@ use Rattle.flat_prog.specs.Trees.{Run}
 use Rattle.piece_core.specs.declared.tasks.Task.{Task}
 use Rattle.piece_core.specs.Shapes.{has_some, is_due}
 use Rattle.piece_core.specs.Evidence.{Over, MayInline, MaySplit}
-use Rattle.engine.specs.Asking.{MayAsk}
+use Rattle.tree_query.specs.Asking.{MayAsk}
 use Rattle.engine.specs.Engine.{MayThink, NoUnder}
 
 pub may_ask : (task : Task) (tree : List (List ℕ)) (piece : List (List ℕ × Decision2)) → MayThink task tree piece → MayAsk task.flat task.entry task.bound tree piece

@@ -2,13 +2,11 @@
 //! how it goes on until the verdict stands.
 #![tactic(auto)]
 
-mod asking;
 mod solo;
 mod thoughts;
 mod turns;
 mod workers;
 
-pub use asking::{Formulas, QueryAnswer};
 pub use solo::solve_solo;
 pub use thoughts::{Thought, think};
 pub use turns::{EventKind, Turned, settle, turn};

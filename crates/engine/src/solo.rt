@@ -4,14 +4,14 @@ ghost use Rattle.std.specs.Bool.{OnTrue};
 ghost use Rattle.piece_core.specs.declared.verdicts.Verdict2.TheVariants.{Unfinished};
 ghost use Rattle.piece_core.specs.Evidence.{shapes_of};
 ghost use Rattle.piece_core.specs.Book.{first_found, to_come, verdict_of};
-ghost use Rattle.engine.specs.Asking.{IsOf};
+ghost use Rattle.tree_query.specs.Asking.{IsOf};
 ghost use Rattle.engine.specs.Engine.{GoesOn, IsEnded, IsHeldBy, IsLive, next_of};
 
-use crate::asking::Formulas;
 use crate::turns::{EventKind, Turned, turn};
 use crate::workers::Worker;
 use piece_core::{Book, Verdict2};
 use std::alloc::{AllocError, Global};
+use tree_query::Formulas;
 
 // Whether a leaf is Found.
 fn has_found(book: &Book) -> bool

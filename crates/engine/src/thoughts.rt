@@ -3,17 +3,18 @@ ghost use Rattle.std.specs.Prelude.{◌≡◌, IfOk};
 ghost use Rattle.std.specs.Arc.{arc_value};
 ghost use Rattle.flat_prog.specs.Nodes.{run_of};
 ghost use Rattle.piece_core.specs.Evidence.{Over};
-ghost use Rattle.engine.specs.Asking.{IsOf};
+ghost use Rattle.tree_query.specs.Asking.{IsOf};
 ghost use Rattle.engine.specs.Engine.{DueIs, MayThink, NoUnder, Thinks};
 
-use crate::asking::{Formulas, QueryAnswer, passed_opens};
 use call_tree::laws::partial_runs_pass_open_sites;
 use call_tree::{SitePath, undecided};
 use cnf_form::Refuted;
 use flat_prog::{PartRun, RunTree};
+use frontier::passed_opens;
 use piece_core::{Sight, Task};
 use sqlite_items::Items;
 use std::alloc::{AllocError, Global};
+use tree_query::{Formulas, QueryAnswer};
 
 /// What is to be booked of a leaf.
 #[derive(Drop)]

@@ -3,11 +3,10 @@ ghost use Rattle.std.specs.Prelude.{◌≡◌};
 ghost use Rattle.std.specs.Arc.{arc_value};
 ghost use Rattle.flat_prog.specs.Nodes.{run_of};
 ghost use Rattle.piece_core.specs.Evidence.{Closes, MayInline, MaySplit, Under};
-ghost use Rattle.engine.specs.Asking.{IsOf};
+ghost use Rattle.tree_query.specs.Asking.{IsOf};
 ghost use Rattle.engine.specs.declared.thoughts.Thought.TheVariants.{Inline as InlineThought, Split as SplitThought, Close as CloseThought, Found as FoundThought};
 ghost use Rattle.engine.specs.Engine.{MayBook, Settled, Turns, turned_of};
 
-use crate::asking::Formulas;
 use crate::thoughts::{Thought, think};
 use crate::workers::Worker;
 use call_tree::SitePath;
@@ -15,6 +14,7 @@ use cnf_form::Refuted;
 use flat_prog::{PartRun, RunTree};
 use piece_core::{Book, EventRefusal, Sight};
 use std::alloc::Global;
+use tree_query::Formulas;
 
 /// The kind of the event of a thought.
 #[derive(Clone, Copy, PartialEq, Eq, Debug)]

@@ -1,6 +1,6 @@
 use Rattle.std.proofs.Common.{◌≡◌, ◌<◌}
 use Rattle.piece_core.specs.Book.{to_come}
-use Rattle.engine.specs.Asking.{IsOf}
+use Rattle.tree_query.specs.Asking.{IsOf}
 use Rattle.engine.specs.Engine.{GoesOn}
 use Rattle.engine.proofs.solo.work_on.Given as goal
 
